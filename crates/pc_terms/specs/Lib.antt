@@ -1,0 +1,5 @@
+pub mod Ascii
+pub mod formers
+pub mod Number
+pub mod Show
+pub mod ShowType
