@@ -1,0 +1,38 @@
+-- What a call on a device does to what the device tells.
+use Rattle.std.specs.Prelude.{◌≡◌, ◌≤◌, ◌⊎◌, ℕ, ◌+◌, ◌-◌, ◌^◌, min, Bool, false, List, ◌++◌, take, Option, Some, None, Result, Ok, Err}
+use Rattle.pc_outside.specs.declared.files.ReadRefused.{ReadRefused}
+use Rattle.pc_outside.specs.declared.files.ReadRefused.TheVariants.{Failed, NoMemory}
+use Rattle.pc_outside.specs.declared.sink.PutRefused.{PutRefused}
+use Rattle.pc_outside.specs.declared.sink.PutRefused.TheVariants as put
+
+-- The count of faults rose. At the largest number that 64 bits hold it stands still.
+abbrev pub Rose : ℕ → ℕ → Type 0
+Rose before now = min (before + 1) (2 ^ 64 - 1) ≤ now
+
+-- ---- reading
+
+-- What a read gives where the content of the name is told: its first `most` bytes.
+abbrev pub IsBeginning : Option (List ℕ) → ℕ → List ℕ → Type 0
+IsBeginning None most bytes = Unit {0}
+IsBeginning (Some content) most bytes = bytes ≡ take most content
+
+-- What a read does to the count of faults and to the name of the last read that failed. A failed read is counted,
+-- and is the last one from then on, where that is told; every other read leaves that name as it was.
+abbrev pub ReadCounts : {V : Type 0} → Result V ReadRefused → List ℕ → ℕ → ℕ → Option (List ℕ) → Option (List ℕ) → Type 0
+ReadCounts (Ok bytes) name before now last last' = (before ≤ now) × (last' ≡ last)
+ReadCounts (Err Failed) name before now last last' = Rose before now × (before ≤ now) × ((last' ≡ None) ⊎ (last' ≡ Some name))
+ReadCounts (Err NoMemory) name before now last last' = (before ≤ now) × (last' ≡ last)
+
+-- ---- writing
+
+-- Each put writes all of its bytes, or leaves a prefix of them. It does not change whether the bytes are told.
+abbrev pub Writes : {V : Type 0} → Result V PutRefused → List ℕ → Option (List ℕ) → Option (List ℕ) → Type 0
+Writes result bytes None written' = written' ≡ None
+Writes (Ok done) bytes (Some written) written' = written' ≡ Some (written ++ bytes)
+Writes (Err e) bytes (Some written) written' = (n : ℕ) × (written' ≡ Some (written ++ take n bytes))
+
+-- What a put does to the count of faults and to the mark that each put so far was whole.
+abbrev pub PutCounts : {V : Type 0} → Result V PutRefused → ℕ → ℕ → Bool → Bool → Type 0
+PutCounts (Ok done) before now whole whole' = (before ≤ now) × (whole' ≡ whole)
+PutCounts (Err put.Failed) before now whole whole' = Rose before now × (before ≤ now) × (whole' ≡ false)
+PutCounts (Err put.NoMemory) before now whole whole' = (before ≤ now) × (whole' ≡ false)
