@@ -1,0 +1,4 @@
+pub mod Loads
+pub mod Orders
+pub mod Pushes
+pub mod Walks

@@ -1,0 +1,181 @@
+-- What a journal says: its calls, what became of each, the sources that stand after it, and the answer of a call
+-- that settles behind it. A journal is the list of its events, and a place is a position in it from 0.
+use Rattle.std.specs.Prelude.{ℕ, Bool, true, false, not, ◌&&◌, if◌then◌else◌, ◌==◌, List, [], ◌∷◌, ◌++◌, count_by, Option, Some, None, is_some, is_none, unwrap_or}
+use Rattle.std.specs.List.{list_any, list_all}
+use Rattle.ask_history.specs.Sources.{Bytes, Sources, is_mutation, mutated}
+use Rattle.ask_history.specs.Walk.{along}
+use Rattle.ask_history.specs.declared.calls.Call.{Call}
+use Rattle.ask_history.specs.declared.events.Mark.{Mark}
+use Rattle.ask_history.specs.declared.events.Mark.TheVariants as mark
+use Rattle.ask_history.specs.declared.events.Event.{Event}
+use Rattle.ask_history.specs.declared.events.Event.TheVariants.{Accept, Cancel, Close, Settle, Checked}
+use Rattle.ask_history.specs.declared.answers.Answer.{Answer}
+use Rattle.ask_history.specs.declared.answers.Answer.TheVariants as answer
+
+-- ---- single events
+
+abbrev pub is_accept : Event → Bool
+is_accept (Accept ticket client tag call) = true
+is_accept (Cancel ticket) = false
+is_accept Close = false
+is_accept (Settle ticket mark) = false
+is_accept (Checked file) = false
+
+abbrev pub is_close : Event → Bool
+is_close (Accept ticket client tag call) = false
+is_close (Cancel ticket) = false
+is_close Close = true
+is_close (Settle ticket mark) = false
+is_close (Checked file) = false
+
+abbrev pub cancels : ℕ → Event → Bool
+cancels t (Accept ticket client tag call) = false
+cancels t (Cancel ticket) = ticket == t
+cancels t Close = false
+cancels t (Settle ticket mark) = false
+cancels t (Checked file) = false
+
+abbrev pub settles : ℕ → Event → Bool
+settles t (Accept ticket client tag call) = false
+settles t (Cancel ticket) = false
+settles t Close = false
+settles t (Settle ticket mark) = ticket == t
+settles t (Checked file) = false
+
+-- the call that an event accepts under a ticket
+abbrev pub call_under : ℕ → Event → Option Call
+call_under t (Accept ticket client tag call) = if ticket == t then Some call else None
+call_under t (Cancel ticket) = None
+call_under t Close = None
+call_under t (Settle ticket mark) = None
+call_under t (Checked file) = None
+
+-- ---- calls and what became of them
+
+abbrev pub first_of_two : Option Call → Option Call → Option Call
+first_of_two (Some call) later = Some call
+first_of_two None later = later
+
+-- The call of a ticket, where one was accepted.
+abbrev pub call_of : List Event → ℕ → Option Call
+call_of [] t = None
+call_of (event ∷ journal) t = first_of_two (call_under t event) (call_of journal t)
+
+-- How many calls were accepted; the next ticket.
+abbrev pub accepted : List Event → ℕ
+accepted journal = count_by is_accept journal
+
+abbrev pub is_closed : List Event → Bool
+is_closed journal = list_any is_close journal
+
+abbrev pub is_cancelled : List Event → ℕ → Bool
+is_cancelled journal t = list_any (cancels t) journal
+
+abbrev pub is_settled : List Event → ℕ → Bool
+is_settled journal t = list_any (settles t) journal
+
+-- A ticket is open where its call was accepted and is not settled.
+abbrev pub is_open : List Event → ℕ → Bool
+is_open journal t = is_some (call_of journal t) && not (is_settled journal t)
+
+-- The tickets of the accepted calls, in order.
+abbrev pub tickets : List Event → List ℕ
+tickets [] = []
+tickets (Accept ticket client tag call ∷ journal) = ticket ∷ tickets journal
+tickets (Cancel ticket ∷ journal) = tickets journal
+tickets (Close ∷ journal) = tickets journal
+tickets (Settle ticket mark ∷ journal) = tickets journal
+tickets (Checked file ∷ journal) = tickets journal
+
+-- Every accepted call is settled.
+abbrev pub all_settled : List Event → Bool
+all_settled journal = list_all (is_settled journal) (tickets journal)
+
+-- The tickets whose settling is marked for want of memory.
+abbrev pub out_of_memory : List Event → List ℕ
+out_of_memory [] = []
+out_of_memory (Accept ticket client tag call ∷ journal) = out_of_memory journal
+out_of_memory (Cancel ticket ∷ journal) = out_of_memory journal
+out_of_memory (Close ∷ journal) = out_of_memory journal
+out_of_memory (Settle ticket mark.Done ∷ journal) = out_of_memory journal
+out_of_memory (Settle ticket mark.NoMemory ∷ journal) = ticket ∷ out_of_memory journal
+out_of_memory (Checked file ∷ journal) = out_of_memory journal
+
+-- ---- sources and answers
+
+abbrev pub by_mark : Mark → Option Answer
+by_mark mark.Done = None
+by_mark mark.NoMemory = Some answer.NoMemory
+
+-- What is answered in place of what was found, for a call that settles behind this journal: `Closed` where the
+-- session is shut down, else `Cancelled` where the call is cancelled, else `NoMemory` where its mark says so.
+abbrev pub forestalled : List Event → ℕ → Mark → Option Answer
+forestalled journal t m = if is_closed journal then Some answer.Closed else (if is_cancelled journal t then Some answer.Cancelled else by_mark m)
+
+abbrev pub mutation_only : Option Call → Option Call
+mutation_only None = None
+mutation_only (Some call) = if is_mutation call then Some call else None
+
+-- The mutation that a settling behind this journal puts in force, if it does: one whose answer is Done.
+abbrev pub taking_effect : List Event → ℕ → Mark → Option Call
+taking_effect journal t m = if is_none (forestalled journal t m) then mutation_only (call_of journal t) else None
+
+abbrev pub changed : Sources → Option Call → Sources
+changed files None = files
+changed files (Some call) = mutated files call
+
+-- what an event does to the sources, behind the events before it
+abbrev pub sources_step : List Event → Sources → Event → Sources
+sources_step before files (Accept ticket client tag call) = files
+sources_step before files (Cancel ticket) = files
+sources_step before files Close = files
+sources_step before files (Settle ticket m) = changed files (taking_effect before ticket m)
+sources_step before files (Checked file) = files
+
+-- The sources after a journal: the mutations whose answer is Done, applied in the order of their settling.
+abbrev pub after : List Event → Sources
+after journal = along sources_step [] journal
+
+-- what an event does to the files that are checked
+abbrev pub checked_step : List Event → List Bytes → Event → List Bytes
+checked_step before files (Accept ticket client tag call) = files
+checked_step before files (Cancel ticket) = files
+checked_step before files Close = files
+checked_step before files (Settle ticket m) = if is_some (taking_effect before ticket m) then [] else files
+checked_step before files (Checked file) = files ++ file ∷ []
+
+-- The files that were checked since a mutation last took effect.
+abbrev pub checked : List Event → List Bytes
+checked journal = along checked_step [] journal
+
+abbrev pub found : (Sources → Call → Answer) → Sources → Option Call → Answer
+found answer_of files None = answer.NoUnit
+found answer_of files (Some call) = if is_mutation call then answer.Done else answer_of files call
+
+-- The answer of a call that settles behind this journal. `answer_of` says what an ask is answered over given sources.
+abbrev pub reply : (Sources → Call → Answer) → List Event → ℕ → Mark → Answer
+reply answer_of journal t m = unwrap_or (forestalled journal t m) (found answer_of (after journal) (call_of journal t))
+
+-- what an event gives a ticket, behind the events before it
+abbrev pub reply_step : (Sources → Call → Answer) → ℕ → List Event → Option Answer → Event → Option Answer
+reply_step answer_of t before given (Accept ticket client tag call) = given
+reply_step answer_of t before given (Cancel ticket) = given
+reply_step answer_of t before given Close = given
+reply_step answer_of t before given (Settle ticket m) = if ticket == t then Some (reply answer_of before t m) else given
+reply_step answer_of t before given (Checked file) = given
+
+-- The answer of a ticket in a journal, where it is settled there.
+abbrev pub reply_in : (Sources → Call → Answer) → List Event → ℕ → Option Answer
+reply_in answer_of journal t = along (reply_step answer_of t) None journal
+
+abbrev pub onto : Option Answer → List Answer → List Answer
+onto None answers = answers
+onto (Some given) answers = given ∷ answers
+
+abbrev pub replies_to : (Sources → Call → Answer) → List Event → List ℕ → List Answer
+replies_to answer_of journal [] = []
+replies_to answer_of journal (t ∷ ts) = onto (reply_in answer_of journal t) (replies_to answer_of journal ts)
+
+-- The answers of the settled calls of a journal, in the order in which they were accepted.
+abbrev pub replies : (Sources → Call → Answer) → List Event → List Answer
+replies answer_of journal = replies_to answer_of journal (tickets journal)

@@ -1,0 +1,58 @@
+-- The sources that are loaded, and what a mutation does to them.
+use Rattle.std.specs.Prelude.{ℕ, Bool, true, false, not, if◌then◌else◌, List, [], ◌∷◌, filter, Option, Some, None}
+use Rattle.std.specs.List.{list_any}
+use Rattle.std.specs.Str.{bytes_eq}
+use Rattle.ask_history.specs.declared.calls.Call.{Call}
+use Rattle.ask_history.specs.declared.calls.Call.TheVariants.{Reload, Remove, TypeAt, MembersAt, ScopeAt, LinkAt, Structure, LoadedTyped}
+
+abbrev pub Bytes : Type 0
+Bytes = List ℕ
+
+-- The loaded files, each with its text, in the order in which they were first loaded. No two have one name.
+abbrev pub Sources : Type 0
+Sources = List (Bytes × Bytes)
+
+-- The text of a file, where it is loaded.
+abbrev pub text_of : Sources → Bytes → Option Bytes
+text_of [] name = None
+text_of (file ∷ files) name = if bytes_eq name file.0 then Some file.1 else text_of files name
+
+abbrev pub is_loaded : Sources → Bytes → Bool
+is_loaded files name = list_any (λ file. bytes_eq name file.0) files
+
+-- A new text for a file: in its place where it is loaded, and last where it is not.
+abbrev pub put_file : Sources → Bytes × Bytes → Sources
+put_file [] entry = entry ∷ []
+put_file (file ∷ files) entry =
+    if bytes_eq entry.0 file.0 then (file.0, entry.1) ∷ files else file ∷ put_file files entry
+
+-- New texts, one after another: the later of two of one name replaces the earlier.
+abbrev pub reloaded : Sources → List (Bytes × Bytes) → Sources
+reloaded files [] = files
+reloaded files (entry ∷ entries) = reloaded (put_file files entry) entries
+
+-- Without the files of these names. A name that is not loaded is passed over.
+abbrev pub removed : Sources → List Bytes → Sources
+removed files names = filter (λ file. not (list_any (bytes_eq file.0) names)) files
+
+-- The calls that change the sources; the others are asks.
+abbrev pub is_mutation : Call → Bool
+is_mutation (Reload entries) = true
+is_mutation (Remove names) = true
+is_mutation (TypeAt file offset) = false
+is_mutation (MembersAt file offset) = false
+is_mutation (ScopeAt file offset) = false
+is_mutation (LinkAt file offset) = false
+is_mutation (Structure file) = false
+is_mutation (LoadedTyped file) = false
+
+-- The sources after a mutation took effect. An ask leaves them.
+abbrev pub mutated : Sources → Call → Sources
+mutated files (Reload entries) = reloaded files entries
+mutated files (Remove names) = removed files names
+mutated files (TypeAt file offset) = files
+mutated files (MembersAt file offset) = files
+mutated files (ScopeAt file offset) = files
+mutated files (LinkAt file offset) = files
+mutated files (Structure file) = files
+mutated files (LoadedTyped file) = files
