@@ -1,0 +1,13 @@
+pub mod Covering
+pub mod DivisionLaws
+pub mod Ends
+pub mod Fitting
+pub mod GapLaws
+pub mod Marks
+pub mod NumberLaws
+pub mod PieceLemmas
+pub mod ProblemOrder
+pub mod RegionLaws
+pub mod ScannedLemmas
+pub mod Steps
+pub mod Texts

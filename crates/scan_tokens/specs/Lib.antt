@@ -1,0 +1,13 @@
+pub mod Characters
+pub mod Division
+pub mod Gaps
+pub mod Kinds
+pub mod Literals
+pub mod Newlines
+pub mod Numbers
+pub mod Order
+pub mod Pieces
+pub mod Reading
+pub mod Regions
+pub mod Scanned
+pub mod Words
