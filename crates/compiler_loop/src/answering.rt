@@ -1,0 +1,68 @@
+ghost use Rattle.std.specs.Prelude.{◌≡◌, ◌≤◌, length, IfOk};
+ghost use Rattle.compiler_loop.specs.LoadedView.{files_of, room_of};
+ghost use Rattle.compiler_loop.specs.ThinAnswer.{thin_answer, tree_answer, unread};
+ghost use Rattle.ask_history.specs.Sources.{text_of, put_file, reloaded};
+ghost use Rattle.compiler_loop.specs.CoreParts.{entries_of};
+
+use crate::loaded::Loaded;
+use crate::tasks::NewFile;
+use crate::thin::{info_at, located};
+use ask_history::{Answer, Call};
+use pc_terms::{NoMemory, Text};
+use std::alloc::Global;
+use std::collections::VecDeque;
+
+/// The answer of an ask over the loaded files.
+pub fn answer(alloc: Global, loaded: &mut Loaded, call: &Call) -> Result<Answer, NoMemory>
+    ensures answer { IfOk result (λ found. found ≡ thin_answer (files_of loaded.old) call.now) }
+    ensures files { files_of loaded.new ≡ files_of loaded.old }
+    ensures room { room_of loaded.new ≡ room_of loaded.old }
+{
+    match call {
+        Call::TypeAt(file, offset) => answer_tree(alloc, loaded, file, *offset),
+        Call::MembersAt(file, _) | Call::ScopeAt(file, _) | Call::LinkAt(file, _) => {
+            Ok(answer_unread(loaded, file))
+        }
+        Call::Structure(file) | Call::LoadedTyped(file) => Ok(answer_unread(loaded, file)),
+        Call::Reload(_) | Call::Remove(_) => Ok(Answer::NoUnit),
+    }
+}
+
+fn answer_unread(loaded: &Loaded, file: &Text) -> Answer
+    ensures { result ≡ unread (files_of loaded.now) file.now }
+{
+    if loaded.is_loaded(file) {
+        Answer::Unread
+    } else {
+        Answer::NoUnit
+    }
+}
+
+#[tactic(auto, using(crate::proofs::LoadedLemmas::text_of_absent))]
+fn answer_tree(
+    alloc: Global,
+    loaded: &mut Loaded,
+    file: &Text,
+    offset: u32,
+) -> Result<Answer, NoMemory>
+    ensures answer { IfOk result (λ found. found ≡ tree_answer (files_of loaded.old) offset (text_of (files_of loaded.old) file.now)) }
+    ensures files { files_of loaded.new ≡ files_of loaded.old }
+    ensures room { room_of loaded.new ≡ room_of loaded.old }
+{
+    if !loaded.is_loaded(file) {
+        return Ok(Answer::NoUnit);
+    }
+    let thin = loaded.is_thin()?;
+    let Some(source) = loaded.get(file) else {
+        return Ok(Answer::NoUnit);
+    };
+    if !thin {
+        return Ok(Answer::Unread);
+    }
+    let len = source.text.len() as u32;
+    if len < offset {
+        return Ok(Answer::NoTree);
+    }
+    let place = located(len, offset, &source.unit);
+    Ok(Answer::Tree(info_at(alloc, &source.unit, place)?))
+}
