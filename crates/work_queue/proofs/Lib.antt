@@ -1,0 +1,14 @@
+pub mod Results
+pub mod EventPlaces
+pub mod Noting
+pub mod Tickets
+pub mod Logs
+pub mod Usages
+pub mod Counting
+pub mod Rooms
+pub mod Closings
+pub mod Queues
+pub mod Replies
+pub mod Refusals
+pub mod Accepting
+pub mod LoadedFiles

@@ -1,0 +1,5 @@
+use Rattle.work_queue.proofs.Counting.{IsCounted}
+use Rattle.work_queue.proofs.tally.Tally.compared_usage.Given as goal
+
+abbrev pub invariant-loop-i : goal.invariant-loop-i
+invariant-loop-i l = IsCounted l.self l.entries l.i l.usage

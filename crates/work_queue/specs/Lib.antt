@@ -1,0 +1,8 @@
+pub mod Places
+pub mod Log
+pub mod Reloads
+pub mod Tally
+pub mod Closing
+pub mod Refusal
+pub mod Queue
+pub mod QueueFacts

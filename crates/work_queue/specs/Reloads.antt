@@ -1,0 +1,68 @@
+-- What the reloads of a journal take up.
+use Rattle.std.specs.Prelude.{ℕ, ◌+◌, ◌-◌, max, if◌then◌else◌, List, [], ◌∷◌, ◌++◌, length, fold, Option, Some, None, is_some, unwrap_or}
+use Rattle.std.specs.List.{flat_map, list_any, sum_by}
+use Rattle.std.specs.Str.{bytes_eq}
+use Rattle.ask_history.specs.Sources.{Bytes}
+use Rattle.ask_history.specs.declared.calls.Call.{Call}
+use Rattle.ask_history.specs.declared.calls.Call.TheVariants.{Reload, Remove, TypeAt, MembersAt, ScopeAt, LinkAt, Structure, LoadedTyped}
+use Rattle.ask_history.specs.declared.events.Event.{Event}
+use Rattle.ask_history.specs.declared.events.Event.TheVariants.{Accept, Cancel, Close, Settle, Checked}
+use Rattle.work_queue.specs.declared.usage.Usage.{Usage}
+
+-- the names and texts that a call reloads
+abbrev pub reloaded_by : Call → List (Bytes × Bytes)
+reloaded_by (Reload entries) = entries
+reloaded_by (Remove names) = []
+reloaded_by (TypeAt file offset) = []
+reloaded_by (MembersAt file offset) = []
+reloaded_by (ScopeAt file offset) = []
+reloaded_by (LinkAt file offset) = []
+reloaded_by (Structure file) = []
+reloaded_by (LoadedTyped file) = []
+
+abbrev pub reloaded_in : Event → List (Bytes × Bytes)
+reloaded_in (Accept ticket client tag call) = reloaded_by call
+reloaded_in (Cancel ticket) = []
+reloaded_in Close = []
+reloaded_in (Settle ticket mark) = []
+reloaded_in (Checked file) = []
+
+-- All names and texts that accepted calls reload, in the order of the calls.
+abbrev pub reloads : List Event → List (Bytes × Bytes)
+reloads journal = flat_map reloaded_in journal
+
+-- The bytes of all texts.
+abbrev pub text_bytes : List (Bytes × Bytes) → ℕ
+text_bytes entries = sum_by (λ entry. length entry.1) entries
+
+abbrev pub longer : Option ℕ → Option ℕ → Option ℕ
+longer None b = b
+longer (Some a) None = Some a
+longer (Some a) (Some b) = Some (max a b)
+
+-- the length of an entry's text, where it is of this name
+abbrev pub length_for : Bytes × Bytes → Bytes → Option ℕ
+length_for entry name = if bytes_eq entry.0 name then Some (length entry.1) else None
+
+-- The length of a name's longest text, where one is reloaded.
+abbrev pub longest : List (Bytes × Bytes) → Bytes → Option ℕ
+longest [] name = None
+longest (entry ∷ entries) name = longer (length_for entry name) (longest entries name)
+
+abbrev pub with_name : List Bytes → Bytes × Bytes → List Bytes
+with_name names entry = if list_any (bytes_eq entry.0) names then names else names ++ entry.0 ∷ []
+
+-- The names, each once.
+abbrev pub names_of : List (Bytes × Bytes) → List Bytes
+names_of entries = fold with_name [] entries
+
+-- The longest texts of all names, together.
+abbrev pub map_bytes : List (Bytes × Bytes) → ℕ
+map_bytes entries = sum_by (λ name. unwrap_or (longest entries name) 0) (names_of entries)
+
+abbrev pub usage_of : List (Bytes × Bytes) → Usage
+usage_of entries = record { text = text_bytes entries; names = length (names_of entries); map = map_bytes entries }
+
+-- with one text more, of this length, where the longest text of its name is this long so far
+abbrev pub with_text : Usage → Option ℕ → ℕ → Usage
+with_text usage most len = record { text = usage.text + len; names = usage.names + (if is_some most then 0 else 1); map = usage.map + (len - unwrap_or most 0) }

@@ -1,0 +1,39 @@
+-- What a tally keeps of reloaded entries.
+use Rattle.std.specs.Prelude.{◌≡◌, ℕ, List, Option, Some, None, Bool, true, is_some, All, if◌then◌else◌}
+use Rattle.std.specs.Str.{bytes_eq}
+use Rattle.indexmap.specs.IndexMap.{get_by_text}
+use Rattle.ask_history.specs.Sources.{Bytes}
+use Rattle.work_queue.specs.Reloads.{longest, longer, usage_of}
+use Rattle.work_queue.specs.declared.tally.Tally.{Tally}
+
+-- where a name has room, what is kept for it
+abbrev pub kept : Option (Option ℕ) → Option ℕ
+kept None = None
+kept (Some most) = most
+
+abbrev pub known : Tally → Bytes → Option ℕ
+known tally name = kept (get_by_text tally.longest name)
+
+-- the tally is of these entries
+pub record IsTally (entries : List (Bytes × Bytes)) (tally : Tally) : Type 0 where
+  pub usage : tally.usage ≡ usage_of entries
+  pub longest : (name : Bytes) → known tally name ≡ longest entries name
+
+-- whether room is made for a name
+abbrev pub has_room : Tally → Bytes → Bool
+has_room tally name = is_some (get_by_text tally.longest name)
+
+abbrev pub HasRoom : List (Bytes × Bytes) → Tally → Type 0
+HasRoom entries tally = All (λ entry. has_room tally entry.0 ≡ true) entries
+
+-- the new tally tells the same, and has no less room
+pub record TellsSame (old new : Tally) : Type 0 where
+  pub usage : new.usage ≡ old.usage
+  pub longest : (name : Bytes) → known new name ≡ known old name
+  pub room : (name : Bytes) → has_room old name ≡ true → has_room new name ≡ true
+
+-- the new tally knows one text more, and has no less room
+pub record Raises (old new : Tally) (name : Bytes) (len : ℕ) : Type 0 where
+  pub usage : new.usage ≡ old.usage
+  pub longest : (other : Bytes) → known new other ≡ longer (known old other) (if bytes_eq name other then Some len else None)
+  pub room : (other : Bytes) → has_room old other ≡ true → has_room new other ≡ true

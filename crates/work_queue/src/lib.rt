@@ -1,0 +1,15 @@
+//! A session's calls behind each other: what was posted, cancelled, settled and checked, kept as a legal journal.
+#![tactic(auto)]
+
+mod calls;
+mod limits;
+mod log;
+mod queue;
+mod tally;
+mod usage;
+
+pub use limits::{CancelSeen, Limits, PostRefused, Settling};
+pub use queue::Queue;
+
+#[cfg(test)]
+mod tests;
