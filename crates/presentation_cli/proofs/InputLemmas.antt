@@ -1,0 +1,156 @@
+-- Where the ASCII bytes of a text end.
+use Rattle.std.proofs.Common.{◌≡◌, ℕ, suc, ◌+◌, ◌<◌, ◌≤◌, Bool, true, false, ◌&&◌, cond, List, [], ◌∷◌, ◌++◌, length, get_or, drop, drop-cons, add-one, take, take_all, length-take-le, Option, Some, None, IfSome, MatchOption, MatchResult, Result, Ok, Err, ◌⊎◌, inl, inr, nat_lt, refl, sym, ap, ◌∙◌, subst, arith}
+use Rattle.std.specs.Option.{option_map}
+use Rattle.std.proofs.lemmas.Bool.Decides.{nat_tests}
+use Rattle.pc_outside.specs.Outside.{IsBeginning}
+use Rattle.pc_terms.specs.Ascii.{is_ascii, all_ascii}
+use Rattle.indexmap.specs.IndexMap.{IndexMap, get}
+use Rattle.std.specs.Str.{bytes_eq}
+use Rattle.std.specs.Cmp.Lexicographic.{same_text}
+use Rattle.presentation_cli.specs.Sourced.{IsSource, IsSourceWhereRead, AreSources}
+use Rattle.presentation_cli.specs.Words.{Bytes}
+use Rattle.presentation_cli.specs.Input.{ascii_len, most_of, accepted_content, Told, then_told, FoundOrTold, call_told, calls_from}
+use Rattle.presentation_cli.specs.Playing.{CanPlay, CanPlayAll}
+use Rattle.ask_history.specs.declared.calls.Call.{Call}
+use Rattle.presentation_cli.specs.declared.script.Order.{Order}
+use Rattle.presentation_cli.specs.declared.ending.Limit.{Limit}
+use Rattle.presentation_cli.specs.declared.ending.Ending.{Ending}
+use Rattle.presentation_cli.specs.declared.ending.Ending.TheVariants as ending
+
+one_more : (b : Bool) (n : ℕ) (rest : Bool) (bs : List ℕ) → (n < length bs → rest ≡ false) → (length bs ≤ n → rest ≡ true)
+    → (cond b (1 + n) 0 < suc (length bs) → (b && rest) ≡ false) × (suc (length bs) ≤ cond b (1 + n) 0 → (b && rest) ≡ true)
+one_more true n rest bs less all = (λ h. less (omega arith), λ h. all (omega arith))
+one_more false n rest bs less all = (λ h. refl, λ h. absurd (omega arith))
+
+cases : (bs : List ℕ) → (ascii_len bs < length bs → all_ascii bs ≡ false) × (length bs ≤ ascii_len bs → all_ascii bs ≡ true)
+cases [] = (λ h. absurd (omega arith), λ h. refl)
+cases (b ∷ bs) = one_more (is_ascii b) (ascii_len bs) (all_ascii bs) bs (cases bs).0 (cases bs).1
+
+pub not_all_ascii : (bs : List ℕ) (n : ℕ) → n ≡ ascii_len bs → n < length bs → all_ascii bs ≡ false
+not_all_ascii bs n is_len h = (cases bs).0 (omega arith)
+
+pub all_ascii_to_end : (bs : List ℕ) (n : ℕ) → n ≡ ascii_len bs → length bs ≤ n → all_ascii bs ≡ true
+all_ascii_to_end bs n is_len h = (cases bs).1 (omega arith)
+
+pub ruleset ascii_rules = (not_all_ascii, all_ascii_to_end)
+
+-- ---- one file
+
+-- what is found of what is told could be found where nothing is told
+pub found_untold : {A : Type 0} (told : Result A Ending) (r : Result A Ending) → FoundOrTold (Some told) r → FoundOrTold None r
+found_untold told (Ok a) h = tt
+found_untold told (Err (ending.ReadFault name)) h = tt
+found_untold told (Err ending.NoMemory) h = tt
+found_untold told (Err ending.Done) h = h
+found_untold told (Err ending.Usage) h = h
+found_untold told (Err ending.WriteFault) h = h
+found_untold told (Err (ending.BadScript name line)) h = tt
+found_untold told (Err (ending.Limit limit value)) h = tt
+found_untold told (Err (ending.NotUtf8 name byte)) h = tt
+
+-- one byte more than the limit tells whether the limit is passed
+accepted-take : (name : Bytes) (limit : Limit) (content : Bytes) → accepted_content name limit (take (most_of limit + 1) content) ≡ accepted_content name limit content
+accepted-take name limit content = by (nat_lt (most_of limit) (length content)) refl where
+  long : nat_lt (most_of limit) (length content) ≡ true → nat_lt (most_of limit) (length (take (most_of limit + 1) content)) ≡ true
+  long h = grind (arith, nat_tests, length-take-le (most_of limit + 1) content (grind (arith, nat_tests)))
+
+  short : nat_lt (most_of limit) (length content) ≡ false → length content ≤ most_of limit + 1
+  short h = grind (arith, nat_tests)
+
+  by : (b : Bool) → nat_lt (most_of limit) (length content) ≡ b → accepted_content name limit (take (most_of limit + 1) content) ≡ accepted_content name limit content
+  by true h = rw (long h, h) refl
+  by false h = ap (accepted_content name limit) (take_all (most_of limit + 1) content (short h))
+
+pub read_found : (name : Bytes) (limit : Limit) (told : Option Bytes) (bytes : Bytes) (r : Result Bytes Ending)
+    → IsBeginning told (most_of limit + 1) bytes → FoundOrTold (Some (accepted_content name limit bytes)) r → FoundOrTold (option_map (accepted_content name limit) told) r
+read_found name limit None bytes r begins found = found_untold (accepted_content name limit bytes) r found
+read_found name limit (Some content) bytes r begins found =
+    subst (λ (t : Result Bytes Ending). FoundOrTold (Some t) r) (ap (accepted_content name limit) begins ∙ accepted-take name limit content) found
+
+pub fault_named : (last : Option Bytes) (name : Bytes) → (last ≡ None) ⊎ (last ≡ Some name) → IfSome last (λ failed. failed ≡ name)
+fault_named last name (inl none) = rw none tt
+fault_named last name (inr some) = rw some refl
+
+pub ruleset reading_rules = (read_found, fault_named)
+
+-- ---- one step behind another
+
+pub found_nothing : {A : Type 0} (told : Told A) (r : Result A Ending) → FoundOrTold told r → FoundOrTold None r
+found_nothing None r h = h
+found_nothing (Some told) r h = found_untold told r h
+
+stays_err : {A B : Type 0} (more : A → Told B) (told : Told A) (e : Ending) → MatchOption told (Unit {0}) (λ t. t ≡ Err e) → MatchOption (then_told more told) (Unit {0}) (λ t. t ≡ Err e)
+stays_err more None e h = tt
+stays_err more (Some (Ok a)) e h = cc
+stays_err more (Some (Err other)) e h = cc
+
+-- why the first step is refused is why both are
+pub found_err : {A B : Type 0} (more : A → Told B) (told : Told A) (e : Ending) → FoundOrTold {A = A} told (Err e) → FoundOrTold {A = B} (then_told more told) (Err e)
+found_err more told (ending.ReadFault name) h = tt
+found_err more told ending.NoMemory h = tt
+found_err more told ending.Done h = h
+found_err more told ending.Usage h = h
+found_err more told ending.WriteFault h = h
+found_err more told (ending.BadScript name line) h = stays_err more told (ending.BadScript name line) h
+found_err more told (ending.Limit limit value) h = stays_err more told (ending.Limit limit value) h
+found_err more told (ending.NotUtf8 name byte) h = stays_err more told (ending.NotUtf8 name byte) h
+
+-- what the second step finds behind the first is what both do
+pub found_then : {A B : Type 0} (more : A → Told B) (told : Told A) (a : A) (r : Result B Ending) → FoundOrTold told (Ok a) → FoundOrTold (more a) r → FoundOrTold (then_told more told) r
+found_then more None a r first second = found_nothing (more a) r second
+found_then more (Some told) a r first second = rw first second
+
+pub ruleset step_rules = (found_err, found_then)
+
+-- ---- the sources that are kept
+
+pub kept_source : (content : Bytes → Option Bytes) (path : Bytes) (kept : Option Bytes) (text : Bytes) → IsSourceWhereRead content path kept → kept ≡ Some text → IsSource content path text
+kept_source content path kept text is same = rw same at is
+
+moved_source : (content : Bytes → Option Bytes) (path other : Bytes) (text : Bytes) (same : Bool) (kept : Option Bytes) → bytes_eq path other ≡ same
+    → IsSource content path text → IsSourceWhereRead content other kept → IsSourceWhereRead content other (cond same (Some text) kept)
+moved_source content path other text true kept e own rest = subst (λ (p : Bytes). IsSource content p text) (same_text path other (sym e)) own
+moved_source content path other text false kept e own rest = rest
+
+pub are_sources-insert : {S : Type 0} (content : Bytes → Option Bytes) (old new : IndexMap Bytes Bytes S) (path text : Bytes)
+    → ((other : Bytes) → get bytes_eq new other ≡ cond (bytes_eq path other) (Some text) (get bytes_eq old other))
+    → IsSource content path text → AreSources content old → AreSources content new
+are_sources-insert content old new path text updates own kept other =
+    rw (updates other) (moved_source content path other text (bytes_eq path other) (get bytes_eq old other) refl own (kept other))
+
+pub ruleset source_rules = (kept_source, are_sources-insert)
+
+-- ---- all calls
+
+pub can_play-push : (calls : List Call) (call : Call) → CanPlayAll calls → CanPlay call → CanPlayAll (calls ++ call ∷ [])
+can_play-push [] call all own = (own, tt)
+can_play-push (first ∷ calls) call all own = (all.0, can_play-push calls call all.1 own)
+
+-- What is found of the orders that are left, behind the calls so far, is found of all.
+abbrev pub LeadsTo : (Bytes → Option Bytes) → List Call → List Order → List Order → Type 0
+LeadsTo content calls left orders =
+    (r : Result (List Call) Ending) → FoundOrTold (calls_from content calls left) r → FoundOrTold (calls_from content [] orders) r
+
+pub leads_on : (content : Bytes → Option Bytes) (calls : List Call) (order : Order) (left orders : List Order) (call : Call)
+    → LeadsTo content calls (order ∷ left) orders → FoundOrTold (call_told content order) (Ok call) → LeadsTo content (calls ++ call ∷ []) left orders
+leads_on content calls order left orders call leads own r found = leads r (found_then (λ made. calls_from content (calls ++ made ∷ []) left) (call_told content order) call r own found)
+
+pub leads_out : (content : Bytes → Option Bytes) (calls : List Call) (order : Order) (left orders : List Order) (e : Ending)
+    → LeadsTo content calls (order ∷ left) orders → FoundOrTold {A = Call} (call_told content order) (Err e) → FoundOrTold {A = List Call} (calls_from content [] orders) (Err e)
+leads_out content calls order left orders e leads own = leads (Err e) (found_err (λ made. calls_from content (calls ++ made ∷ []) left) (call_told content order) e own)
+
+pub same_content : (a b : Bytes → Option Bytes) → ((other : Bytes) → a other ≡ b other) → a ≡ b
+same_content a b same = λ i other. same other i
+
+pub next_order : (orders : List Order) (i : ℕ) (order : Order) → i < length orders → order ≡ get_or orders i order → drop i orders ≡ order ∷ drop (i + 1) orders
+next_order orders i order within here = rw (add-one, drop-cons orders i order within, ← here) refl
+
+-- the calls of the orders that were found are those of the schedule
+pub found_calls : {D : Type 0} (items : D → List Call) (content later : Bytes → Option Bytes) (told : Told (List Order)) (orders : List Order) (r : Result D Ending)
+    → later ≡ content → FoundOrTold told (Ok orders)
+    → MatchResult r (λ d. FoundOrTold (calls_from later [] orders) (Ok (items d))) (λ e. FoundOrTold (calls_from later [] orders) (Err e))
+    → MatchResult r (λ d. FoundOrTold (then_told (calls_from content []) told) (Ok (items d))) (λ e. FoundOrTold (then_told (calls_from content []) told) (Err e))
+found_calls items content later told orders (Ok d) same first found =
+    found_then (calls_from content []) told orders (Ok (items d)) first (subst (λ (k : Bytes → Option Bytes). FoundOrTold (calls_from k [] orders) (Ok (items d))) same found)
+found_calls items content later told orders (Err e) same first found =
+    found_then (calls_from content []) told orders (Err e) first (subst (λ (k : Bytes → Option Bytes). FoundOrTold (calls_from k [] orders) (Err e)) same found)

@@ -1,0 +1,14 @@
+use Rattle.std.proofs.Common.{List, Ok, sym, subst}
+use Rattle.presentation_cli.specs.declared.script.Order.{Order}
+use Rattle.presentation_cli.specs.Input.{orders_told, FoundOrTold}
+use Rattle.presentation_cli.proofs.InputLemmas.{found_calls, same_content}
+use Rattle.presentation_cli.proofs.input.read_calls.Goals as goal
+
+pub returns-in-Ok-clause-found : goal.returns-in-Ok-clause-found
+returns-in-Ok-clause-found g c =
+    let content = g.F.Files.content c.args.files.now in
+    let later = g.F.Files.content c.read_orders.new.files in
+    let told = orders_told content c.args.schedule.now in
+    let first = subst (λ (orders : List Order). FoundOrTold told (Ok orders)) (sym c.as_slice.ensures) c.in-Ok.ensures.found in
+    found_calls (λ calls. calls.items) content later told c.as_slice.result.now c.calls_of.result
+    (same_content later content c.in-Ok.ensures.content) first c.calls_of.ensures.found

@@ -1,0 +1,52 @@
+//! Runs schedules of an editor's session.
+#![tactic(auto)]
+
+mod alone;
+mod ending;
+mod input;
+mod modes;
+mod playing;
+mod printed;
+mod report;
+mod run;
+mod script;
+mod serving;
+mod telling;
+
+use alone::run_alone;
+use compiler_loop::Core;
+use pc_outside::{Sink, StdFiles, WriterSink};
+use pc_terms::NoMemory;
+use std::process::ExitCode;
+use std::rt::Env;
+use std::{env, io};
+
+// The words behind the program's name.
+fn command_words(rt: &(impl Env + AllocGlobal)) -> io::Result<Vec<String>> {
+    let mut words = Vec::new(rt.alloc());
+    for word in env::args(rt)?.skip(1) {
+        words.push(word)?;
+    }
+    Ok(words)
+}
+
+fn main(rt: HostRuntime) -> ExitCode {
+    let alloc = rt.alloc();
+    let words = command_words(&rt).unwrap_or(Vec::new(alloc));
+    let mut files = StdFiles::new(&rt);
+    let mut out = WriterSink::new(rt.stdout());
+    let mut err = WriterSink::new(rt.stderr());
+    match Core::new(alloc) {
+        Ok(mut engine) => {
+            let report = run_alone(alloc, &words, &mut files, &mut out, &mut err, &mut engine);
+            ExitCode::from(report.status)
+        }
+        Err(NoMemory {}) => {
+            let _ = err.put(b"no memory\n");
+            ExitCode::from(7)
+        }
+    }
+}
+
+#[cfg(test)]
+mod tests;

@@ -1,0 +1,142 @@
+//! Tells a user how a run ended.
+
+ghost use Rattle.std.specs.Prelude.{◌≡◌, ◌++◌, ◌⊎◌, true, [], IfOk};
+ghost use Rattle.std.specs.Option.{option_map};
+ghost use Rattle.presentation_cli.specs.Run as spec;
+ghost use Rattle.presentation_cli.specs.Telling.{IsOrNoMemory};
+
+use crate::ending::{Ending, Limit};
+use pc_outside::Sink;
+use pc_terms::{NoMemory, Text};
+use std::alloc::Global;
+
+fn limit_name(limit: Limit) -> &'static str
+    ensures { result.now ≡ spec.limit_name limit }
+{
+    match limit {
+        Limit::ScriptBytes => "ScriptBytes",
+        Limit::FileBytes => "FileBytes",
+    }
+}
+
+/// The status that a run which ended so gives to the system.
+pub fn status_of(ending: &Ending) -> u8
+    ensures { result ≡ spec.status_of ending.now }
+{
+    match ending {
+        Ending::Done => 0,
+        Ending::Usage => 2,
+        Ending::ReadFault(_) => 3,
+        Ending::BadScript(_, _) => 4,
+        Ending::WriteFault => 5,
+        Ending::NoMemory => 7,
+        Ending::Limit(_, _) => 8,
+        Ending::NotUtf8(_, _) => 9,
+    }
+}
+
+fn bad_script_line(alloc: Global, name: &Text, line: u64) -> Result<Text, NoMemory>
+    ensures { IfOk result (λ text. text ≡ spec.bad_script_text name.now line) }
+{
+    let mut text = Text::new(alloc, "bad script: ")?;
+    text.push_str(name.as_str())?;
+    text.push_str(" line ")?;
+    text.push_number(alloc, line)?;
+    text.push_str("\n")?;
+    Ok(text)
+}
+
+fn limit_line(alloc: Global, limit: Limit, value: u64) -> Result<Text, NoMemory>
+    ensures { IfOk result (λ text. text ≡ spec.limit_text limit value) }
+{
+    let mut text = Text::new(alloc, "limit ")?;
+    text.push_str(limit_name(limit))?;
+    text.push_str(" ")?;
+    text.push_number(alloc, value)?;
+    text.push_str("\n")?;
+    Ok(text)
+}
+
+fn not_utf8_line(alloc: Global, name: &Text, byte: u64) -> Result<Text, NoMemory>
+    ensures { IfOk result (λ text. text ≡ spec.not_utf8_text name.now byte) }
+{
+    let mut text = Text::new(alloc, "not UTF-8: ")?;
+    text.push_str(name.as_str())?;
+    text.push_str(" byte ")?;
+    text.push_number(alloc, byte)?;
+    text.push_str("\n")?;
+    Ok(text)
+}
+
+fn read_fault_line(alloc: Global, name: &Text) -> Result<Text, NoMemory>
+    ensures { IfOk result (λ text. text ≡ spec.read_fault_text name.now) }
+{
+    let mut text = Text::new(alloc, "read fault: ")?;
+    text.push_str(name.as_str())?;
+    text.push_str("\n")?;
+    Ok(text)
+}
+
+fn line_of(alloc: Global, ending: &Ending) -> Result<Text, NoMemory>
+    ensures { IfOk result (λ text. text ≡ spec.line_text ending.now) }
+{
+    match ending {
+        Ending::Done => Text::new(alloc, ""),
+        Ending::Usage => Text::new(
+            alloc,
+            "usage: batch NAME... or step SCHEDULE or replay CLIENT...\n",
+        ),
+        Ending::ReadFault(name) => read_fault_line(alloc, name),
+        Ending::BadScript(name, line) => bad_script_line(alloc, name, *line),
+        Ending::WriteFault => Text::new(alloc, "write fault\n"),
+        Ending::NoMemory => Text::new(alloc, "no memory\n"),
+        Ending::Limit(limit, value) => limit_line(alloc, *limit, *value),
+        Ending::NotUtf8(name, byte) => not_utf8_line(alloc, name, *byte),
+    }
+}
+
+// Puts a line on the sink. Whether it took the line is not asked.
+fn put_line<E: Sink>(err: &mut E, line: &str)
+    ensures { E.whole err.new ≡ true → E.written err.new ≡ option_map (λ bytes. bytes ++ line.now) (E.written err.old) }
+{
+    match err.put(line.as_bytes()) {
+        Ok(()) => {}
+        Err(_) => {}
+    }
+}
+
+/// Tells how a run ended. Where no memory is found for the line of an ending that was to be told, the run ends for want
+/// of memory.
+pub fn tell<E: Sink>(alloc: Global, err: &mut E, ending: Ending) -> Ending
+    ensures told { E.whole err.new ≡ true → E.written err.new ≡ option_map (λ bytes. bytes ++ spec.line_text result) (E.written err.old) }
+    ensures same { IsOrNoMemory ending result }
+{
+    match ending {
+        Ending::Done => Ending::Done,
+        Ending::Usage => {
+            put_line(
+                err,
+                "usage: batch NAME... or step SCHEDULE or replay CLIENT...\n",
+            );
+            Ending::Usage
+        }
+        Ending::WriteFault => {
+            put_line(err, "write fault\n");
+            Ending::WriteFault
+        }
+        Ending::NoMemory => {
+            put_line(err, "no memory\n");
+            Ending::NoMemory
+        }
+        ending => match line_of(alloc, &ending) {
+            Ok(line) => {
+                put_line(err, line.as_str());
+                ending
+            }
+            Err(NoMemory {}) => {
+                put_line(err, "no memory\n");
+                Ending::NoMemory
+            }
+        },
+    }
+}
