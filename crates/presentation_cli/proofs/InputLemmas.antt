@@ -1,5 +1,5 @@
 -- Where the ASCII bytes of a text end.
-use Rattle.std.proofs.Common.{◌≡◌, ℕ, suc, ◌+◌, ◌<◌, ◌≤◌, Bool, true, false, ◌&&◌, cond, List, [], ◌∷◌, ◌++◌, length, get_or, drop, drop-cons, add-one, take, take_all, length-take-le, Option, Some, None, IfSome, MatchOption, MatchResult, Result, Ok, Err, ◌⊎◌, inl, inr, nat_lt, refl, sym, ap, ◌∙◌, subst, arith}
+use Rattle.std.proofs.Common.{◌≡◌, ℕ, zero, suc, ◌+◌, ◌<◌, ◌≤◌, Bool, true, false, ◌&&◌, cond, List, [], ◌∷◌, ◌++◌, length, get_or, drop, drop-cons, add-one, take, take_all, length-take-le, Option, Some, None, IfSome, IfErr, MatchOption, MatchResult, Result, Ok, Err, ◌⊎◌, inl, inr, nat_lt, refl, sym, ap, ◌∙◌, subst, arith}
 use Rattle.std.specs.Option.{option_map}
 use Rattle.std.proofs.lemmas.Bool.Decides.{nat_tests}
 use Rattle.pc_outside.specs.Outside.{IsBeginning}
@@ -10,6 +10,7 @@ use Rattle.std.specs.Cmp.Lexicographic.{same_text}
 use Rattle.presentation_cli.specs.Sourced.{IsSource, IsSourceWhereRead, AreSources}
 use Rattle.presentation_cli.specs.Words.{Bytes}
 use Rattle.presentation_cli.specs.Input.{ascii_len, most_of, accepted_content, Told, then_told, FoundOrTold, call_told, calls_from}
+use Rattle.presentation_cli.specs.Faults.{IsNoFault, NamesSuch, IsPathOf, IsPathIn, IsPathTold, IsReadBy}
 use Rattle.presentation_cli.specs.Playing.{CanPlay, CanPlayAll}
 use Rattle.ask_history.specs.declared.calls.Call.{Call}
 use Rattle.presentation_cli.specs.declared.script.Order.{Order}
@@ -154,3 +155,44 @@ found_calls items content later told orders (Ok d) same first found =
     found_then (calls_from content []) told orders (Ok (items d)) first (subst (λ (k : Bytes → Option Bytes). FoundOrTold (calls_from k [] orders) (Ok (items d))) same found)
 found_calls items content later told orders (Err e) same first found =
     found_then (calls_from content []) told orders (Err e) first (subst (λ (k : Bytes → Option Bytes). FoundOrTold (calls_from k [] orders) (Err e)) same found)
+
+-- ---- which file a fault of reading names
+
+pub no_fault_named : (Such : Bytes → Type 0) (e : Ending) → IsNoFault e → NamesSuch Such e
+no_fault_named Such ending.Done h = tt
+no_fault_named Such ending.Usage h = tt
+no_fault_named Such (ending.ReadFault name) h = absurd h
+no_fault_named Such (ending.BadScript name line) h = tt
+no_fault_named Such ending.WriteFault h = tt
+no_fault_named Such ending.NoMemory h = tt
+no_fault_named Such (ending.Limit limit value) h = tt
+no_fault_named Such (ending.NotUtf8 name byte) h = tt
+
+-- what names one file names one of more
+pub names_more : (Such More : Bytes → Type 0) (e : Ending) → ((file : Bytes) → Such file → More file) → NamesSuch Such e → NamesSuch More e
+names_more Such More ending.Done more h = tt
+names_more Such More ending.Usage more h = tt
+names_more Such More (ending.ReadFault name) more h = more name h
+names_more Such More (ending.BadScript name line) more h = tt
+names_more Such More ending.WriteFault more h = tt
+names_more Such More ending.NoMemory more h = tt
+names_more Such More (ending.Limit limit value) more h = tt
+names_more Such More (ending.NotUtf8 name byte) more h = tt
+
+pub path_in : (orders : List Order) (i : ℕ) (order : Order) (file : Bytes) → i < length orders → order ≡ get_or orders i order → IsPathOf order file → IsPathIn orders file
+path_in [] i order file within here own = absurd (omega arith)
+path_in (first ∷ orders) zero order file within here own = inl (subst (λ (o : Order). IsPathOf o file) here own)
+path_in (first ∷ orders) (suc i) order file within here own = inr (path_in orders i order file (omega arith) here own)
+
+-- a path of the orders that were found is one of those that are told
+pub path_told : (told : Told (List Order)) (orders : List Order) (file : Bytes) → FoundOrTold told (Ok orders) → IsPathIn orders file → IsPathTold told file
+path_told None orders file found own = tt
+path_told (Some t) orders file found own = rw found own
+
+pub named_calls : {D : Type 0} (schedule : Bytes) (told : Told (List Order)) (orders : List Order) (r : Result D Ending) → FoundOrTold told (Ok orders)
+    → IfErr r (NamesSuch (IsPathIn orders)) → IfErr r (NamesSuch (IsReadBy schedule told))
+named_calls schedule told orders (Ok d) found named = tt
+named_calls schedule told orders (Err e) found named = names_more (IsPathIn orders) (IsReadBy schedule told) e (λ file own. inr (path_told told orders file found own)) named
+
+pub named_schedule : (schedule : Bytes) (told : Told (List Order)) (e : Ending) → NamesSuch (λ file. file ≡ schedule) e → NamesSuch (IsReadBy schedule told) e
+named_schedule schedule told e named = names_more (λ file. file ≡ schedule) (IsReadBy schedule told) e (λ file own. inl own) named

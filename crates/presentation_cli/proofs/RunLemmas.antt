@@ -15,7 +15,7 @@ use Rattle.presentation_cli.specs.declared.modes.Mode.TheVariants.{Alone, Thread
 use Rattle.presentation_cli.specs.Run.{IsOutcome, IsOutcomeOf, Follows, Ran, RanIn, schedule_of, Wrote, WritesCount, GrewBy, transcript, Seen, Completes}
 use Rattle.presentation_cli.specs.Input.{Told, FoundOrTold, calls_told}
 use Rattle.pc_outside.specs.Outside.{Rose}
-use Rattle.presentation_cli.specs.Faults.{HasFault}
+use Rattle.presentation_cli.specs.Faults.{HasFault, NamesSuch}
 use Rattle.presentation_cli.specs.Printed.{session_text}
 use Rattle.presentation_cli.specs.declared.ending.Ending.{Ending}
 use Rattle.presentation_cli.specs.declared.ending.Ending.TheVariants as ending
@@ -94,8 +94,6 @@ no_read_fault calls (ending.ReadFault name) journal before now last whole risen 
 no_read_fault calls (ending.BadScript name line) journal before now last whole risen = risen
 no_read_fault calls (ending.Limit limit value) journal before now last whole risen = risen
 no_read_fault calls (ending.NotUtf8 name byte) journal before now last whole risen = risen
-
-pub ruleset step_rules = (follows_session, follows_refused, wrote_nothing, no_write_fault, no_read_fault, grew_by_nothing)
 
 -- ---- the line for the user may end a run for want of memory
 
@@ -190,7 +188,25 @@ still_completes content words ended telling journal seen same ran fault counts =
     (completes (mode_of words) content (schedule_of words) ended journal seen ran fault counts)
     (λ calls alone known reads puts. inr refl)
 
-pub ruleset telling_rules = (still_ran, still_wrote, still_writes, still_reads, still_completes)
+-- ---- which file a fault of reading names
+
+-- a session has no fault of reading
+pub session_named : (calls : List Call) (ended : Ending) (journal : List Event) (Such : Bytes → Type 0) → IsOutcomeOf calls ended journal → NamesSuch Such ended
+session_named calls ending.Done journal Such whole = tt
+session_named calls ending.WriteFault journal Such whole = tt
+session_named calls ending.NoMemory journal Such whole = tt
+session_named calls ending.Usage journal Such whole = tt
+session_named calls (ending.ReadFault name) journal Such whole = absurd whole
+session_named calls (ending.BadScript name line) journal Such whole = tt
+session_named calls (ending.Limit limit value) journal Such whole = tt
+session_named calls (ending.NotUtf8 name byte) journal Such whole = tt
+
+pub ruleset step_rules = (follows_session, follows_refused, wrote_nothing, no_write_fault, no_read_fault, grew_by_nothing, session_named)
+
+pub still_named : (ended telling : Ending) (Such : Bytes → Type 0) → IsOrNoMemory ended telling → NamesSuch Such ended → NamesSuch Such telling
+still_named ended telling Such same named = still (λ e. NamesSuch Such e) ended telling same named tt
+
+pub ruleset telling_rules = (still_ran, still_wrote, still_writes, still_reads, still_completes, still_named)
 
 -- ---- words that are no command
 

@@ -1,7 +1,10 @@
 -- When a fault of reading is told.
-use Rattle.std.specs.Prelude.{◌≡◌, ◌≤◌, ℕ, Option, Result, Ok, Err, IfSome}
+use Rattle.std.specs.Prelude.{◌≡◌, ◌≤◌, ◌⊎◌, ℕ, List, [], ◌∷◌, Option, Some, None, Result, Ok, Err, IfSome}
 use Rattle.pc_outside.specs.Outside.{Rose}
 use Rattle.presentation_cli.specs.Words.{Bytes}
+use Rattle.presentation_cli.specs.Input.{Told}
+use Rattle.presentation_cli.specs.declared.script.Order.{Order}
+use Rattle.presentation_cli.specs.declared.script.Order.TheVariants.{Reload, TypeAt}
 use Rattle.presentation_cli.specs.declared.ending.Ending.{Ending}
 use Rattle.presentation_cli.specs.declared.ending.Ending.TheVariants as ending
 
@@ -30,3 +33,33 @@ IsNoFault ending.WriteFault = Unit {0}
 IsNoFault ending.NoMemory = Unit {0}
 IsNoFault (ending.Limit limit value) = Unit {0}
 IsNoFault (ending.NotUtf8 name byte) = Unit {0}
+
+-- ---- which file a fault of reading names
+
+-- a fault of reading names such a file
+abbrev pub NamesSuch : (Bytes → Type 0) → Ending → Type 0
+NamesSuch Such (ending.ReadFault name) = Such name
+NamesSuch Such ending.Done = Unit {0}
+NamesSuch Such ending.Usage = Unit {0}
+NamesSuch Such (ending.BadScript name line) = Unit {0}
+NamesSuch Such ending.WriteFault = Unit {0}
+NamesSuch Such ending.NoMemory = Unit {0}
+NamesSuch Such (ending.Limit limit value) = Unit {0}
+NamesSuch Such (ending.NotUtf8 name byte) = Unit {0}
+
+abbrev pub IsPathOf : Order → Bytes → Type 0
+IsPathOf (Reload name path) file = file ≡ path
+IsPathOf (TypeAt name offset) file = ⊥
+
+abbrev pub IsPathIn : List Order → Bytes → Type 0
+IsPathIn [] file = ⊥
+IsPathIn (order ∷ orders) file = IsPathOf order file ⊎ IsPathIn orders file
+
+abbrev pub IsPathTold : Told (List Order) → Bytes → Type 0
+IsPathTold None file = Unit {0}
+IsPathTold (Some (Ok orders)) file = IsPathIn orders file
+IsPathTold (Some (Err e)) file = ⊥
+
+-- a file that a run reads: the schedule, or the path of one of its orders, where these are told
+abbrev pub IsReadBy : Bytes → Told (List Order) → Bytes → Type 0
+IsReadBy schedule told file = (file ≡ schedule) ⊎ IsPathTold told file

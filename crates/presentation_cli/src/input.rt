@@ -9,7 +9,7 @@ ghost use Rattle.std.specs.List.{prefix_len};
 ghost use Rattle.pc_terms.specs.Ascii.{is_ascii, all_ascii};
 ghost use Rattle.presentation_cli.specs.Input as spec;
 ghost use Rattle.presentation_cli.specs.Script.{orders_of};
-ghost use Rattle.presentation_cli.specs.Faults.{ReadsCount, IsNoFault};
+ghost use Rattle.presentation_cli.specs.Faults.{ReadsCount, IsNoFault, NamesSuch, IsPathOf, IsPathIn, IsReadBy};
 
 use crate::ending::{Ending, Limit};
 use crate::script::{Order, ScriptRefused, read_schedule};
@@ -66,6 +66,7 @@ fn read_file<F: Files>(
     ensures small { IfOk result (λ text. length text ≤ spec.most_of limit) }
     ensures content { (other : List ℕ) → F.content files.new other ≡ F.content files.old other }
     ensures counts { ReadsCount result (F.faults files.old) (F.faults files.new) (F.last_failed files.new) }
+    ensures named { IfErr result (NamesSuch (λ file. file ≡ name.now)) }
 {
     match files.read(alloc, name.as_str(), most_of(limit) + 1) {
         Ok(content) => accepted_content(name, limit, content),
@@ -85,6 +86,7 @@ fn read_orders<F: Files>(
     ensures few { IfOk result (λ orders. length orders ≤ 4194305) }
     ensures content { (other : List ℕ) → F.content files.new other ≡ F.content files.old other }
     ensures counts { ReadsCount result (F.faults files.old) (F.faults files.new) (F.last_failed files.new) }
+    ensures named { IfErr result (NamesSuch (λ file. file ≡ schedule.now)) }
 {
     let text = read_file(alloc, files, schedule, Limit::ScriptBytes)?;
     orders_of_text(alloc, schedule, &text)
@@ -116,6 +118,7 @@ fn source_text<F: Files>(
     ensures sources { OnOk result (AreSources (F.content files.old) sources.new) }
     ensures content { (other : List ℕ) → F.content files.new other ≡ F.content files.old other }
     ensures counts { ReadsCount result (F.faults files.old) (F.faults files.new) (F.last_failed files.new) }
+    ensures named { IfErr result (NamesSuch (λ file. file ≡ path.now)) }
 {
     if let Some(text) = sources.get(path) {
         return Ok(text.clone()?);
@@ -139,6 +142,7 @@ fn call_of<F: Files>(
     ensures sources { OnOk result (AreSources (F.content files.old) sources.new) }
     ensures content { (other : List ℕ) → F.content files.new other ≡ F.content files.old other }
     ensures counts { ReadsCount result (F.faults files.old) (F.faults files.new) (F.last_failed files.new) }
+    ensures named { IfErr result (NamesSuch (IsPathOf order.now)) }
 {
     match order {
         Order::TypeAt(name, offset) => Ok(Call::TypeAt(name.clone()?, *offset)),
@@ -173,6 +177,7 @@ fn calls_of<F: Files>(
     ensures few { IfOk result (λ calls. length calls.items ≤ length orders.now) }
     ensures content { (other : List ℕ) → F.content files.new other ≡ F.content files.old other }
     ensures counts { ReadsCount result (F.faults files.old) (F.faults files.new) (F.last_failed files.new) }
+    ensures named { IfErr result (NamesSuch (IsPathIn orders.now)) }
 {
     let mut sources = IndexMap::new(alloc);
     let mut calls = VecDeque::new(alloc);
@@ -198,6 +203,7 @@ pub fn read_calls<F: Files>(
     ensures can { IfOk result (λ calls. CanPlayAll calls.items) }
     ensures few { IfOk result (λ calls. length calls.items ≤ 4194305) }
     ensures counts { ReadsCount result (F.faults files.old) (F.faults files.new) (F.last_failed files.new) }
+    ensures named { IfErr result (NamesSuch (IsReadBy schedule.now (spec.orders_told (F.content files.old) schedule.now))) }
 {
     match read_orders(alloc, files, schedule) {
         Ok(orders) => calls_of(alloc, files, orders.as_slice()),

@@ -3,8 +3,8 @@
 ghost use Rattle.std.specs.Prelude.{◌≡◌, ◌≤◌, ◌<◌, ◌^◌, true, [], ℕ, List, length, IsTrue};
 ghost use Rattle.presentation_cli.specs.Run as spec;
 ghost use Rattle.presentation_cli.specs.Playing.{CanPlayAll};
-ghost use Rattle.presentation_cli.specs.Input.{calls_told};
-ghost use Rattle.presentation_cli.specs.Faults.{HasFault};
+ghost use Rattle.presentation_cli.specs.Input.{calls_told, orders_told};
+ghost use Rattle.presentation_cli.specs.Faults.{HasFault, NamesSuch, IsReadBy};
 ghost use Rattle.ask_history.specs.Engine.{fresh_state};
 ghost use Rattle.ask_history.specs.Journal.{all_settled};
 ghost use Rattle.ask_history.specs.Legal.{is_legal};
@@ -106,6 +106,7 @@ pub fn run_step<F: Files, O: Sink, N: Engine>(
     ensures settled { all_settled result.journal.events ≡ true }
     ensures wrote { spec.Wrote (spec.transcript N.answer_of result.journal.events) result.ending (O.written out.old) (O.written out.new) }
     ensures reading { HasFault result.ending (F.faults files.old) (F.faults files.new) (F.last_failed files.new) }
+    ensures named { NamesSuch (IsReadBy schedule.now (orders_told (F.content files.old) schedule.now)) result.ending }
     ensures writing { spec.WritesCount result.ending (O.faults out.old) (O.faults out.new) }
 {
     let schedule = match Text::new(alloc, schedule) {

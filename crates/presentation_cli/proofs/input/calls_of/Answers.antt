@@ -5,7 +5,8 @@ use Rattle.std.proofs.lemmas.Grind.{common_steps}
 use Rattle.presentation_cli.specs.Words.{Bytes}
 use Rattle.presentation_cli.specs.Input.{FoundOrTold, call_told}
 use Rattle.presentation_cli.specs.Sourced.{AreSources}
-use Rattle.presentation_cli.proofs.InputLemmas.{leads_on, leads_out, next_order, same_content, can_play-push}
+use Rattle.presentation_cli.proofs.InputLemmas.{leads_on, leads_out, next_order, same_content, can_play-push, names_more, path_in}
+use Rattle.presentation_cli.specs.Faults.{IsPathOf, IsPathIn}
 use Rattle.presentation_cli.proofs.input.calls_of.Goals as goal
 
 pub returns-in-Err-clause-found : goal.returns-in-Err-clause-found
@@ -18,6 +19,14 @@ returns-in-Err-clause-found g c =
     let leads = rw (next_order orders i c.order-item.result within c.order-item.is) at c.loop-order.invariant.leads in
     let own = subst (λ (k : Bytes → Option Bytes). FoundOrTold {A = Call} (call_told k c.order-item.result) (Err c.in-Err.refused)) same c.in-Err.ensures.found in
     leads_out content c.loop-order.calls.items c.order-item.result (drop (i + 1) orders) orders c.in-Err.refused leads own
+
+pub returns-in-Err-clause-named : goal.returns-in-Err-clause-named
+returns-in-Err-clause-named g c =
+    let orders = c.args.orders.now in
+    let i = c.loop-order.order-index in
+    let within : i < length orders = omega arith in
+    names_more (IsPathOf c.order-item.result) (IsPathIn orders) c.in-Err.refused
+    (λ file own. path_in orders i c.order-item.result file within c.order-item.is own) c.in-Err.ensures.named
 
 pub loop-order-preserved : goal.loop-order-preserved
 loop-order-preserved g c =

@@ -1,7 +1,7 @@
 use Rattle.std.proofs.Common.{List, Ok, sym, subst}
 use Rattle.presentation_cli.specs.declared.script.Order.{Order}
 use Rattle.presentation_cli.specs.Input.{orders_told, FoundOrTold}
-use Rattle.presentation_cli.proofs.InputLemmas.{found_calls, same_content}
+use Rattle.presentation_cli.proofs.InputLemmas.{found_calls, same_content, named_calls, named_schedule}
 use Rattle.presentation_cli.proofs.input.read_calls.Goals as goal
 
 pub returns-in-Ok-clause-found : goal.returns-in-Ok-clause-found
@@ -12,3 +12,13 @@ returns-in-Ok-clause-found g c =
     let first = subst (λ (orders : List Order). FoundOrTold told (Ok orders)) (sym c.as_slice.ensures) c.in-Ok.ensures.found in
     found_calls (λ calls. calls.items) content later told c.as_slice.result.now c.calls_of.result
     (same_content later content c.in-Ok.ensures.content) first c.calls_of.ensures.found
+
+pub returns-in-Ok-clause-named : goal.returns-in-Ok-clause-named
+returns-in-Ok-clause-named g c =
+    let told = orders_told (g.F.Files.content c.args.files.now) c.args.schedule.now in
+    let first = subst (λ (orders : List Order). FoundOrTold told (Ok orders)) (sym c.as_slice.ensures) c.in-Ok.ensures.found in
+    named_calls c.args.schedule.now told c.as_slice.result.now c.calls_of.result first c.calls_of.ensures.named
+
+pub returns-in-Err-clause-named : goal.returns-in-Err-clause-named
+returns-in-Err-clause-named g c =
+    named_schedule c.args.schedule.now (orders_told (g.F.Files.content c.args.files.now) c.args.schedule.now) c.in-Err.refused c.in-Err.ensures.named
