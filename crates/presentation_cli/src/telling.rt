@@ -4,6 +4,7 @@ ghost use Rattle.std.specs.Prelude.{◌≡◌, ◌++◌, ◌⊎◌, true, [], If
 ghost use Rattle.std.specs.Option.{option_map};
 ghost use Rattle.presentation_cli.specs.Run as spec;
 ghost use Rattle.presentation_cli.specs.Telling.{IsOrNoMemory};
+ghost use Rattle.presentation_cli.specs.declared.ending.Ending.TheVariants as ending;
 
 use crate::ending::{Ending, Limit};
 use pc_outside::Sink;
@@ -33,6 +34,24 @@ pub fn status_of(ending: &Ending) -> u8
         Ending::Limit(_, _) => 8,
         Ending::NotUtf8(_, _) => 9,
     }
+}
+
+fn usage_line() -> &'static str
+    ensures { result.now ≡ spec.line_text ending.Usage }
+{
+    "usage: batch NAME... or step SCHEDULE or replay CLIENT...\n"
+}
+
+fn write_fault_line() -> &'static str
+    ensures { result.now ≡ spec.line_text ending.WriteFault }
+{
+    "write fault\n"
+}
+
+fn no_memory_line() -> &'static str
+    ensures { result.now ≡ spec.line_text ending.NoMemory }
+{
+    "no memory\n"
 }
 
 fn bad_script_line(alloc: Global, name: &Text, line: u64) -> Result<Text, NoMemory>
@@ -82,14 +101,11 @@ fn line_of(alloc: Global, ending: &Ending) -> Result<Text, NoMemory>
 {
     match ending {
         Ending::Done => Text::new(alloc, ""),
-        Ending::Usage => Text::new(
-            alloc,
-            "usage: batch NAME... or step SCHEDULE or replay CLIENT...\n",
-        ),
+        Ending::Usage => Text::new(alloc, usage_line()),
         Ending::ReadFault(name) => read_fault_line(alloc, name),
         Ending::BadScript(name, line) => bad_script_line(alloc, name, *line),
-        Ending::WriteFault => Text::new(alloc, "write fault\n"),
-        Ending::NoMemory => Text::new(alloc, "no memory\n"),
+        Ending::WriteFault => Text::new(alloc, write_fault_line()),
+        Ending::NoMemory => Text::new(alloc, no_memory_line()),
         Ending::Limit(limit, value) => limit_line(alloc, *limit, *value),
         Ending::NotUtf8(name, byte) => not_utf8_line(alloc, name, *byte),
     }
@@ -114,18 +130,15 @@ pub fn tell<E: Sink>(alloc: Global, err: &mut E, ending: Ending) -> Ending
     match ending {
         Ending::Done => Ending::Done,
         Ending::Usage => {
-            put_line(
-                err,
-                "usage: batch NAME... or step SCHEDULE or replay CLIENT...\n",
-            );
+            put_line(err, usage_line());
             Ending::Usage
         }
         Ending::WriteFault => {
-            put_line(err, "write fault\n");
+            put_line(err, write_fault_line());
             Ending::WriteFault
         }
         Ending::NoMemory => {
-            put_line(err, "no memory\n");
+            put_line(err, no_memory_line());
             Ending::NoMemory
         }
         ending => match line_of(alloc, &ending) {
@@ -134,7 +147,7 @@ pub fn tell<E: Sink>(alloc: Global, err: &mut E, ending: Ending) -> Ending
                 ending
             }
             Err(NoMemory {}) => {
-                put_line(err, "no memory\n");
+                put_line(err, no_memory_line());
                 Ending::NoMemory
             }
         },
