@@ -5,6 +5,7 @@ use Rattle.std.specs.Option.{option_map}
 use Rattle.std.specs.List.{list_all, take_while, starts_with}
 use Rattle.std.specs.Char.{is_ascii_alphabetic, is_ascii_alphanumeric}
 use Rattle.std.specs.Str.{bytes_eq}
+pub use Rattle.pc_terms.specs.Bytes.{Bytes}
 use Rattle.pc_terms.specs.Number.{number_of}
 use Rattle.scan_tokens.specs.Kinds.{is_reserved_word}
 use Rattle.compiler_loop.specs.declared.thin.reading.ValType.{ValType}
@@ -12,9 +13,6 @@ use Rattle.compiler_loop.specs.declared.thin.reading.ValType.TheVariants as val_
 use Rattle.compiler_loop.specs.declared.thin.reading.ThinVal.{ThinVal}
 use Rattle.compiler_loop.specs.declared.thin.reading.ThinUnit.{ThinUnit}
 use Rattle.compiler_loop.specs.declared.thin.reading.ThinUnit.TheVariants.{Empty, Object, Other}
-
-abbrev pub Bytes : Type 0
-Bytes = List ℕ
 
 abbrev pub begins_with_letter : Bytes → Bool
 begins_with_letter [] = false

@@ -11,9 +11,10 @@ use Rattle.pc_terms.specs.declared.types.Ty.{Ty}
 use Rattle.pc_terms.specs.declared.types.Ty.TheVariants as ty
 use Rattle.pc_terms.specs.declared.tree_kinds.TreeKind.{TreeKind}
 use Rattle.pc_terms.specs.declared.tree_kinds.TreeKind.TheVariants as tree_kind
+use Rattle.ask_history.specs.Engine.{asked_file}
 use Rattle.ask_history.specs.Sources.{Sources, is_loaded, text_of}
 use Rattle.ask_history.specs.declared.calls.Call.{Call}
-use Rattle.ask_history.specs.declared.calls.Call.TheVariants.{Reload, Remove, TypeAt, MembersAt, ScopeAt, LinkAt, Structure, LoadedTyped}
+use Rattle.ask_history.specs.declared.calls.Call.TheVariants.{Reload, Remove, TypeAt}
 use Rattle.ask_history.specs.declared.answers.TreeInfo.{TreeInfo}
 use Rattle.ask_history.specs.declared.answers.Answer.{Answer}
 use Rattle.ask_history.specs.declared.answers.Answer.TheVariants as answer
@@ -144,10 +145,6 @@ unread sources file = if is_loaded sources file then answer.Unread else answer.N
 -- The answer of an ask: the tree at an offset where the sources are thin.
 abbrev pub thin_answer : Sources → Call → Answer
 thin_answer sources (TypeAt file offset) = tree_answer sources offset (text_of sources file)
-thin_answer sources (MembersAt file offset) = unread sources file
-thin_answer sources (ScopeAt file offset) = unread sources file
-thin_answer sources (LinkAt file offset) = unread sources file
-thin_answer sources (Structure file) = unread sources file
-thin_answer sources (LoadedTyped file) = unread sources file
 thin_answer sources (Reload entries) = answer.NoUnit
 thin_answer sources (Remove names) = answer.NoUnit
+thin_answer sources call = unread sources (asked_file call)

@@ -4,7 +4,7 @@ ghost use Rattle.compiler_loop.specs.ThinAnswer.{thin_answer, tree_answer, unrea
 ghost use Rattle.ask_history.specs.Sources.{text_of, put_file, reloaded};
 ghost use Rattle.compiler_loop.specs.CoreParts.{entries_of};
 
-use crate::loaded::Loaded;
+use crate::loaded::LoadedFiles;
 use crate::tasks::NewFile;
 use crate::thin::{info_at, located};
 use ask_history::{Answer, Call};
@@ -13,7 +13,7 @@ use std::alloc::Global;
 use std::collections::VecDeque;
 
 /// The answer of an ask over the loaded files.
-pub fn answer(alloc: Global, loaded: &mut Loaded, call: &Call) -> Result<Answer, NoMemory>
+pub fn answer(alloc: Global, loaded: &mut LoadedFiles, call: &Call) -> Result<Answer, NoMemory>
     ensures answer { IfOk result (λ found. found ≡ thin_answer (files_of loaded.old) call.now) }
     ensures files { files_of loaded.new ≡ files_of loaded.old }
     ensures room { room_of loaded.new ≡ room_of loaded.old }
@@ -28,7 +28,7 @@ pub fn answer(alloc: Global, loaded: &mut Loaded, call: &Call) -> Result<Answer,
     }
 }
 
-fn answer_unread(loaded: &Loaded, file: &Text) -> Answer
+fn answer_unread(loaded: &LoadedFiles, file: &Text) -> Answer
     ensures { result ≡ unread (files_of loaded.now) file.now }
 {
     if loaded.is_loaded(file) {
@@ -41,7 +41,7 @@ fn answer_unread(loaded: &Loaded, file: &Text) -> Answer
 #[tactic(auto, using(crate::proofs::LoadedLemmas::text_of_absent))]
 fn answer_tree(
     alloc: Global,
-    loaded: &mut Loaded,
+    loaded: &mut LoadedFiles,
     file: &Text,
     offset: u32,
 ) -> Result<Answer, NoMemory>

@@ -1,6 +1,7 @@
 ghost use Rattle.std.specs.Prelude.{◌≡◌, ◌≤◌, length, All, false, IfOk};
 ghost use Rattle.ask_history.specs.Sources.{is_mutation};
 ghost use Rattle.compiler_loop.specs.CoreParts.{entries_of};
+ghost use Rattle.pc_terms.specs.Bytes.{max_source_bytes};
 
 use crate::source::Source;
 use crate::tasks::NewFile;
@@ -28,7 +29,7 @@ pub fn copied_ask(call: &Call) -> Result<Call, NoMemory>
 /// Copies and reads the files of a reload.
 #[tactic(auto, using(crate::proofs::CoreLemmas::entries_of_push, std::proofs::lemmas::Grind::common_steps))]
 pub fn new_files(alloc: Global, entries: &[(Text, Text)]) -> Result<VecDeque<NewFile>, NoMemory>
-    requires { All (λ entry. length entry.1 ≤ 262144) entries.now }
+    requires { All (λ entry. length entry.1 ≤ max_source_bytes) entries.now }
     ensures { IfOk result (λ files. entries_of files.items ≡ entries.now) }
 {
     let mut files = VecDeque::new(alloc);

@@ -2,12 +2,9 @@ ghost use Rattle.std.specs.Prelude.{◌≡◌, ◌≤◌, length, IfOk};
 ghost use Rattle.std.specs.Option.{ForSome};
 ghost use Rattle.compiler_loop.specs.LoadedView.{room_of};
 
-#[cfg(test)]
-mod tests;
-
 use crate::answering::answer;
 use crate::copying::copied_ask;
-use crate::loaded::Loaded;
+use crate::loaded::LoadedFiles;
 use crate::staging::{apply, stage};
 use crate::tasks::{Ask, Staged};
 use ask_history::{Call, Effect, Engine, Fed, Turn};
@@ -19,7 +16,7 @@ use std::alloc::Global;
 #[derive(Drop)]
 pub struct Core {
     pub(crate) alloc: Global,
-    pub(crate) loaded: Loaded,
+    pub(crate) loaded: LoadedFiles,
     pub(crate) ask: Option<Ask>,
     pub(crate) staged: Option<Staged>,
     ghost room: { ForSome staged (λ staged. length staged.files.items ≤ room_of loaded) },
@@ -36,7 +33,7 @@ impl Core {
     {
         Ok(Core {
             alloc,
-            loaded: Loaded::new(alloc),
+            loaded: LoadedFiles::new(alloc),
             ask: None,
             staged: None,
         })

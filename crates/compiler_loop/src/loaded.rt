@@ -12,7 +12,7 @@ use std::alloc::Global;
 
 /// The loaded files in load order, with what they were read as.
 #[derive(Drop)]
-pub struct Loaded {
+pub struct LoadedFiles {
     alloc: Global,
     files: IndexMap<Text, Source>,
     /// Whether all of them are thin together, once that was asked.
@@ -20,13 +20,13 @@ pub struct Loaded {
     ghost known: { ForSome thin (λ thin. thin ≡ is_thin files.entries) },
 }
 
-impl Loaded {
+impl LoadedFiles {
     ghost use Rattle.compiler_loop.specs.LoadedView.{files_of, room_of};
 
-    pub fn new(alloc: Global) -> Loaded
+    pub fn new(alloc: Global) -> LoadedFiles
         ensures { files_of result ≡ [] }
     {
-        Loaded {
+        LoadedFiles {
             alloc,
             files: IndexMap::new(alloc),
             thin: None,
@@ -42,7 +42,7 @@ impl Loaded {
         Ok(())
     }
 
-    /// Puts a file in the place of the one of its name, or last. It takes no memory.
+    /// Puts a file where the one of its name was, or last. It takes no memory.
     #[tactic(auto, using(crate::proofs::LoadedLemmas::texts_of_insert))]
     pub fn put(&mut self, name: Text, source: Source)
         requires { 0 < room_of self.old }

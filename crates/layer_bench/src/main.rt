@@ -6,8 +6,8 @@ mod refused;
 mod words;
 
 use layers::count_of;
+use pc_terms::MAX_SOURCE_BYTES;
 use refused::Refused;
-use scan_tokens::MAX_SOURCE_LEN;
 use std::alloc::Global;
 use std::process::ExitCode;
 use std::rt::{Env, Files};
@@ -22,7 +22,7 @@ fn run(rt: &(impl Env + Files + AllocGlobal + Print)) -> Result<(), Refused> {
     }
     let work = work_of(alloc, words.as_slice())?;
     let text = fs::read_to_string(rt, work.name.as_str()).map_err(Refused::Unreadable)?;
-    if text.len() > MAX_SOURCE_LEN {
+    if text.len() > MAX_SOURCE_BYTES {
         return Err(Refused::TooLong);
     }
     let count = count_of(alloc, work.layer, text.as_str(), work.times).map_err(

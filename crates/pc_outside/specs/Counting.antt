@@ -1,7 +1,7 @@
 -- How calls and faults are counted.
 use Rattle.std.specs.Prelude.{ℕ, ◌+◌, ◌-◌, ◌^◌, min, Bool, false, Result, Ok, Err}
 use Rattle.pc_outside.specs.declared.files.ReadRefused.{ReadRefused}
-use Rattle.pc_outside.specs.declared.files.ReadRefused.TheVariants.{Failed, NoMemory}
+use Rattle.pc_outside.specs.declared.files.ReadRefused.TheVariants.{Failed}
 use Rattle.pc_outside.specs.declared.sink.PutRefused.{PutRefused}
 use Rattle.pc_outside.specs.declared.sink.PutRefused.TheVariants as put
 
@@ -11,15 +11,13 @@ one_more n = min (n + 1) (2 ^ 64 - 1)
 
 -- the count of faults after a read
 abbrev pub faults_after_read : {V : Type 0} → Result V ReadRefused → ℕ → ℕ
-faults_after_read (Ok bytes) faults = faults
 faults_after_read (Err Failed) faults = one_more faults
-faults_after_read (Err NoMemory) faults = faults
+faults_after_read _ faults = faults
 
 -- the count of faults after a put
 abbrev pub faults_after_put : {V : Type 0} → Result V PutRefused → ℕ → ℕ
-faults_after_put (Ok done) faults = faults
 faults_after_put (Err put.Failed) faults = one_more faults
-faults_after_put (Err put.NoMemory) faults = faults
+faults_after_put _ faults = faults
 
 -- whether each put so far answered `Ok`, after one more
 abbrev pub whole_after_put : {V : Type 0} → Result V PutRefused → Bool → Bool

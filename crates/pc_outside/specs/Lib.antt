@@ -1,6 +1,6 @@
 pub mod Outside
 pub mod Counting
-pub mod Schedule
+pub mod FailurePlan
 pub mod MemoryFiles
 pub mod MemorySink
 pub mod StdFiles

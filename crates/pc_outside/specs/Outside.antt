@@ -1,5 +1,6 @@
 -- What a call on a device does to what the device tells.
-use Rattle.std.specs.Prelude.{◌≡◌, ◌≤◌, ◌⊎◌, ℕ, ◌+◌, ◌-◌, ◌^◌, min, Bool, false, List, ◌++◌, take, Option, Some, None, Result, Ok, Err}
+use Rattle.std.specs.Prelude.{◌≡◌, ◌≤◌, ◌⊎◌, ℕ, ◌+◌, ◌-◌, ◌^◌, min, Bool, false, ◌++◌, take, Option, Some, None, Result, Ok, Err}
+use Rattle.pc_terms.specs.Bytes.{Bytes}
 use Rattle.pc_outside.specs.declared.files.ReadRefused.{ReadRefused}
 use Rattle.pc_outside.specs.declared.files.ReadRefused.TheVariants.{Failed, NoMemory}
 use Rattle.pc_outside.specs.declared.sink.PutRefused.{PutRefused}
@@ -12,21 +13,20 @@ Rose before now = min (before + 1) (2 ^ 64 - 1) ≤ now
 -- ---- reading
 
 -- What a read gives where the content of the name is told: its first `most` bytes.
-abbrev pub IsBeginning : Option (List ℕ) → ℕ → List ℕ → Type 0
+abbrev pub IsBeginning : Option Bytes → ℕ → Bytes → Type 0
 IsBeginning None most bytes = Unit {0}
 IsBeginning (Some content) most bytes = bytes ≡ take most content
 
 -- What a read does to the count of faults and to the name of the last read that failed. A failed read is counted,
 -- and is the last one from then on, where that is told; every other read leaves that name as it was.
-abbrev pub ReadCounts : {V : Type 0} → Result V ReadRefused → List ℕ → ℕ → ℕ → Option (List ℕ) → Option (List ℕ) → Type 0
-ReadCounts (Ok bytes) name before now last last' = (before ≤ now) × (last' ≡ last)
+abbrev pub ReadCounts : {V : Type 0} → Result V ReadRefused → Bytes → ℕ → ℕ → Option Bytes → Option Bytes → Type 0
 ReadCounts (Err Failed) name before now last last' = Rose before now × (before ≤ now) × ((last' ≡ None) ⊎ (last' ≡ Some name))
-ReadCounts (Err NoMemory) name before now last last' = (before ≤ now) × (last' ≡ last)
+ReadCounts _ name before now last last' = (before ≤ now) × (last' ≡ last)
 
 -- ---- writing
 
 -- Each put writes all of its bytes, or leaves a prefix of them. It does not change whether the bytes are told.
-abbrev pub Writes : {V : Type 0} → Result V PutRefused → List ℕ → Option (List ℕ) → Option (List ℕ) → Type 0
+abbrev pub Writes : {V : Type 0} → Result V PutRefused → Bytes → Option Bytes → Option Bytes → Type 0
 Writes result bytes None written' = written' ≡ None
 Writes (Ok done) bytes (Some written) written' = written' ≡ Some (written ++ bytes)
 Writes (Err e) bytes (Some written) written' = (n : ℕ) × (written' ≡ Some (written ++ take n bytes))

@@ -1,6 +1,7 @@
 -- What a sink over a writer counts, and what its puts leave in a writer that tells its bytes.
-use Rattle.std.specs.Prelude.{ℕ, Bool, List, take, Option, Result, Ok, Err}
+use Rattle.std.specs.Prelude.{ℕ, Bool, take, Option, Result, Ok, Err}
 use Rattle.std.specs.Io.KnownBytes.{Appends}
+use Rattle.pc_terms.specs.Bytes.{Bytes}
 use Rattle.pc_outside.specs.declared.writer_sink.WriterSink.{WriterSink}
 
 -- the writer
@@ -16,6 +17,6 @@ abbrev pub whole_of : {W : Type 0} → WriterSink W → Bool
 whole_of sink = sink.whole
 
 -- the writer took all of the bytes, or, where that failed, a prefix of them
-abbrev pub TakesBytes : {V E : Type 0} → Result V E → List ℕ → Option (List ℕ) → Option (List ℕ) → Type 0
+abbrev pub TakesBytes : {V E : Type 0} → Result V E → Bytes → Option Bytes → Option Bytes → Type 0
 TakesBytes (Ok done) bytes old new = Appends old new bytes
 TakesBytes (Err e) bytes old new = (n : ℕ) × Appends old new (take n bytes)

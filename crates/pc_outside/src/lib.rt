@@ -2,11 +2,11 @@
 //! over the system.
 #![tactic(auto)]
 
+mod failure_plan;
 mod files;
 mod memory_files;
 mod memory_sink;
 mod refused;
-mod schedule;
 mod sink;
 mod std_files;
 mod writer_sink;

@@ -1,6 +1,6 @@
 ghost use Rattle.std.specs.Prelude.{◌≡◌, ◌≤◌, ◌≢◌, ℕ, List, if◌then◌else◌, is_ok, IfOk, OnOk, OnErr, vec_len, take};
 
-use crate::schedule::Schedule;
+use crate::failure_plan::FailurePlan;
 use crate::{Files, ReadRefused};
 use pc_terms::NoMemory;
 use std::alloc::{AllocError, Global};
@@ -12,7 +12,7 @@ use std::collections::BTreeMap;
 pub struct MemoryFiles {
     alloc: Global,
     contents: BTreeMap<String, Vec<u8>>,
-    schedule: Schedule,
+    plan: FailurePlan,
     faults: u64,
     last_failed: Option<String>,
 }
@@ -33,13 +33,13 @@ impl MemoryFiles {
         MemoryFiles {
             alloc,
             contents: BTreeMap::new(alloc),
-            schedule: Schedule::new(failing),
+            plan: FailurePlan::new(failing),
             faults: 0,
             last_failed: None,
         }
     }
 
-    /// Adds a file, or puts another content in its place.
+    /// Adds a file, or replaces its content.
     #[tactic(auto, using(std::proofs::lemmas::Map::Text::text_keys))]
     pub fn insert(&mut self, name: &str, content: Vec<u8>) -> Result<(), NoMemory>
         ensures ok { OnOk result (content_of self.new name.now ≡ Some content.items) }
@@ -113,7 +113,7 @@ impl Files for MemoryFiles {
             (answer_of (next_is_planned self.old) (content_of self.old name.now) most) }
         ensures kept { Counts result name.now self.old self.new }
     {
-        let planned = self.schedule.begin_call();
+        let planned = self.plan.begin_call();
         match self.contents.get(name) {
             Some(content) if !planned => Ok(beginning(alloc, content, most)?),
             _ => {
@@ -121,54 +121,5 @@ impl Files for MemoryFiles {
                 Err(ReadRefused::Failed)
             }
         }
-    }
-}
-
-#[cfg(test)]
-mod tests {
-    use super::*;
-    use std::test::Fail;
-
-    fn read_all<F: Files>(
-        files: &mut F,
-        alloc: Global,
-        name: &str,
-    ) -> Result<Vec<u8>, ReadRefused> {
-        files.read(alloc, name, 100)
-    }
-
-    #[test]
-    fn a_read_gives_the_beginning_of_a_file(rt: HostRuntime) -> Result<(), Fail> {
-        let alloc = rt.alloc();
-        let mut files = MemoryFiles::new(alloc, Vec::new(alloc));
-        files.insert("A.scala", b"object A".to_vec(alloc)?)?;
-        files.insert("B.scala", b"object B".to_vec(alloc)?)?;
-        files.insert("B.scala", b"class B".to_vec(alloc)?)?;
-        let beginning = files.read(alloc, "A.scala", 3)?;
-        assert_eq!(rt; beginning.as_slice(), b"obj".as_slice());
-        let whole = read_all(&mut files, alloc, "B.scala")?;
-        assert_eq!(rt; whole.as_slice(), b"class B".as_slice());
-        assert_eq!(rt; files.faults(), 0);
-        assert_eq!(rt; files.last_failed(), None);
-        Ok(())
-    }
-
-    #[test]
-    fn planned_calls_and_unknown_names_fail(rt: HostRuntime) -> Result<(), Fail> {
-        let alloc = rt.alloc();
-        let mut files = MemoryFiles::new(alloc, vec![in alloc; 2]?);
-        files.insert("A.scala", b"object A".to_vec(alloc)?)?;
-        let first = read_all(&mut files, alloc, "A.scala")?;
-        assert_eq!(rt; first.as_slice(), b"object A".as_slice());
-        let second = read_all(&mut files, alloc, "A.scala");
-        assert_eq!(rt; second.err(), Some(ReadRefused::Failed));
-        assert_eq!(rt; files.last_failed(), Some("A.scala"));
-        let third = read_all(&mut files, alloc, "A.scala")?;
-        assert_eq!(rt; third.as_slice(), b"object A".as_slice());
-        let fourth = read_all(&mut files, alloc, "C.scala");
-        assert_eq!(rt; fourth.err(), Some(ReadRefused::Failed));
-        assert_eq!(rt; files.last_failed(), Some("C.scala"));
-        assert_eq!(rt; files.faults(), 2);
-        Ok(())
     }
 }

@@ -1,6 +1,6 @@
 ghost use Rattle.std.specs.Prelude.{◌≡◌, [], true};
 
-use crate::schedule::Schedule;
+use crate::failure_plan::FailurePlan;
 use crate::{PutRefused, Sink};
 use std::alloc::Global;
 
@@ -8,7 +8,7 @@ use std::alloc::Global;
 #[derive(Drop)]
 pub struct MemorySink {
     written: Vec<u8>,
-    schedule: Schedule,
+    plan: FailurePlan,
     faults: u64,
     whole: bool,
 }
@@ -38,7 +38,7 @@ impl MemorySink {
     {
         MemorySink {
             written,
-            schedule: Schedule::new(failing),
+            plan: FailurePlan::new(failing),
             faults: 0,
             whole: true,
         }
@@ -85,7 +85,7 @@ impl Sink for MemorySink {
         ensures answer { AnswersUnlessNoMemory result (next_is_planned self.old) }
         ensures kept { Puts result bytes.now self.old self.new }
     {
-        if self.schedule.begin_call() {
+        if self.plan.begin_call() {
             self.whole = false;
             self.written.extend_from_slice(&bytes[..bytes.len() / 2])?;
             self.faults = self.faults.saturating_add(1);
@@ -95,41 +95,6 @@ impl Sink for MemorySink {
             self.whole = false;
             return Err(PutRefused::NoMemory);
         }
-        Ok(())
-    }
-}
-
-#[cfg(test)]
-mod tests {
-    use super::*;
-    use std::test::Fail;
-
-    fn put_text<S: Sink>(sink: &mut S, text: &str) -> Result<(), PutRefused> {
-        sink.put(text.as_bytes())
-    }
-
-    #[test]
-    fn puts_are_kept_in_their_order(rt: HostRuntime) -> Result<(), Fail> {
-        let alloc = rt.alloc();
-        let mut sink = MemorySink::new(alloc, Vec::new(alloc));
-        put_text(&mut sink, "files")?;
-        put_text(&mut sink, "\n")?;
-        assert_eq!(rt; sink.bytes(), b"files\n".as_slice());
-        assert!(rt; sink.is_whole());
-        Ok(())
-    }
-
-    #[test]
-    fn a_put_that_fails_leaves_a_prefix(rt: HostRuntime) -> Result<(), Fail> {
-        let alloc = rt.alloc();
-        let mut sink = MemorySink::with_bytes(b"0".to_vec(alloc)?, vec![in alloc; 2]?);
-        put_text(&mut sink, "ab")?;
-        assert_eq!(rt; put_text(&mut sink, "cdef"), Err(PutRefused::Failed));
-        assert_eq!(rt; sink.bytes(), b"0abcd".as_slice());
-        put_text(&mut sink, "g")?;
-        assert_eq!(rt; sink.bytes(), b"0abcdg".as_slice());
-        assert_eq!(rt; sink.faults(), 1);
-        assert!(rt; !sink.is_whole());
         Ok(())
     }
 }

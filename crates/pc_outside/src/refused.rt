@@ -1,4 +1,4 @@
-//! Want of memory as a refusal of a read and of a put.
+//! Out of memory as a refusal of a read and of a put.
 ghost use Rattle.std.specs.Prelude.{◌≡◌};
 
 use crate::{PutRefused, ReadRefused};

@@ -92,31 +92,3 @@ impl<R: rt::Files> Files for StdFiles<R> {
         outcome
     }
 }
-
-#[cfg(test)]
-mod tests {
-    use super::*;
-    use std::test::Fail;
-    use std::{env, process};
-
-    #[test]
-    fn a_file_of_the_system_is_read(rt: HostRuntime) -> Result<(), Fail> {
-        let alloc = rt.alloc();
-        let folder = env::temp_dir(&rt)?;
-        let name = format!(in alloc; "pc_outside-{}", process::id(rt.process()))?;
-        let path = folder.as_path().join(alloc, name.as_str())?;
-        let path = path.as_str();
-        let content = vec![in alloc; b'x'; 2 * PIECE]?;
-        fs::write(&rt, path, content.as_slice())?;
-        let mut files = StdFiles::new(&rt);
-        let beginning = files.read(alloc, path, PIECE + 1);
-        let whole = files.read(alloc, path, 3 * PIECE);
-        fs::remove_file(&rt, path)?;
-        let gone = files.read(alloc, path, 1);
-        assert_eq!(rt; beginning?.as_slice(), &content[..PIECE + 1]);
-        assert_eq!(rt; whole?.as_slice(), content.as_slice());
-        assert_eq!(rt; gone.err(), Some(ReadRefused::Failed));
-        assert_eq!(rt; files.faults(), 1);
-        Ok(())
-    }
-}

@@ -89,31 +89,3 @@ impl<W: Write> Sink for WriterSink<W> {
         Ok(())
     }
 }
-
-#[cfg(test)]
-mod tests {
-    use super::*;
-    use std::test::Fail;
-
-    #[test]
-    fn standard_output_and_standard_error_are_written(rt: HostRuntime) {
-        let mut out = WriterSink::new(rt.stdout());
-        assert_eq!(rt; out.put(b"files\n"), Ok(()));
-        let mut err = WriterSink::new(rt.stderr());
-        assert_eq!(rt; err.put(b"usage\n"), Ok(()));
-        assert!(rt; out.is_whole() && err.is_whole());
-    }
-
-    #[test]
-    fn a_writer_that_is_full_fails(rt: HostRuntime) -> Result<(), Fail> {
-        let mut room = [0; 4];
-        let mut sink = WriterSink::new(&mut room[..]);
-        assert_eq!(rt; sink.put(b"abc"), Ok(()));
-        assert_eq!(rt; sink.put(b"def"), Err(PutRefused::Failed));
-        assert_eq!(rt; sink.put(b""), Ok(()));
-        assert_eq!(rt; sink.faults(), 1);
-        assert!(rt; !sink.is_whole());
-        assert_eq!(rt; room.as_slice(), b"abcd".as_slice());
-        Ok(())
-    }
-}

@@ -1,4 +1,5 @@
 pub mod Ascii
+pub mod Bytes
 pub mod formers
 pub mod Number
 pub mod Show

@@ -22,71 +22,32 @@ kind_word TypeParam = codes "tparam"
 kind_word Param = codes "param"
 kind_word Local = codes "local"
 
--- what stands behind a step, before the next one
+-- what stands after a step, before the next one
 abbrev pub separator : SymKind → List ℕ
-separator Package = codes "."
 separator Class = codes "#"
 separator Trait = codes "#"
-separator Object = codes "."
-separator Val = codes "."
-separator Var = codes "."
-separator Lazy = codes "."
-separator Def = codes "."
-separator Alias = codes "."
-separator TypeParam = codes "."
-separator Param = codes "."
-separator Local = codes "."
+separator _ = codes "."
 
--- a later one of several methods of one name has its number behind it
+-- a later one of several methods of one name has its number after it
 abbrev pub ordinal_text : SymKind → ℕ → List ℕ
 ordinal_text Def ordinal = if ordinal == 0 then [] else codes "~" ++ decimal ordinal
-ordinal_text Package ordinal = []
-ordinal_text Class ordinal = []
-ordinal_text Trait ordinal = []
-ordinal_text Object ordinal = []
-ordinal_text Val ordinal = []
-ordinal_text Var ordinal = []
-ordinal_text Lazy ordinal = []
-ordinal_text Alias ordinal = []
-ordinal_text TypeParam ordinal = []
-ordinal_text Param ordinal = []
-ordinal_text Local ordinal = []
+ordinal_text _ _ = []
 
 abbrev pub step_text : SymStep → List ℕ
 step_text step = step.name ++ ordinal_text step.kind step.ordinal
 
--- the steps, the first of them behind this separator
+-- the steps, the first of them after this separator
 abbrev pub steps_text : List ℕ → List SymStep → List ℕ
 steps_text before [] = []
 steps_text before (step ∷ steps) = before ++ step_text step ++ steps_text (separator step.kind) steps
 
 abbrev pub is_package : SymKind → Bool
 is_package Package = true
-is_package Class = false
-is_package Trait = false
-is_package Object = false
-is_package Val = false
-is_package Var = false
-is_package Lazy = false
-is_package Def = false
-is_package Alias = false
-is_package TypeParam = false
-is_package Param = false
-is_package Local = false
+is_package _ = false
 
 abbrev pub is_local : SymKind → Bool
 is_local Local = true
-is_local Package = false
-is_local Class = false
-is_local Trait = false
-is_local Object = false
-is_local Val = false
-is_local Var = false
-is_local Lazy = false
-is_local Def = false
-is_local Alias = false
-is_local TypeParam = false
-is_local Param = false
+is_local _ = false
 
 abbrev pub is_scala : SymStep → Bool
 is_scala step = is_package step.kind && bytes_eq step.name (codes "scala")
@@ -109,7 +70,7 @@ abbrev pub path_text_by_last : List SymStep → Option SymStep → List ℕ
 path_text_by_last path None = []
 path_text_by_last path (Some step) = if is_local step.kind then local_text step else steps_text [] (without_scala path)
 
--- A path: its steps with `#` behind a class or trait and `.` behind any other, without a leading `scala.`.
+-- A path: its steps with `#` after a class or trait and `.` after any other, without a leading `scala.`.
 abbrev pub path_text : List SymStep → List ℕ
 path_text path = path_text_by_last path (last_step path)
 

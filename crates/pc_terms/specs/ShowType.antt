@@ -17,13 +17,13 @@ pub record Shown : Type 0 where
 abbrev pub plain : List ℕ → Shown
 plain text = record { text = text; compound = false }
 
-abbrev pub joined_behind : List ℕ → List (List ℕ) → List ℕ
-joined_behind before [] = []
-joined_behind before (text ∷ texts) = before ++ text ++ joined_behind (codes ", ") texts
+abbrev pub joined_after : List ℕ → List (List ℕ) → List ℕ
+joined_after before [] = []
+joined_after before (text ∷ texts) = before ++ text ++ joined_after (codes ", ") texts
 
 -- texts with commas between them
 abbrev pub joined : List (List ℕ) → List ℕ
-joined texts = joined_behind [] texts
+joined texts = joined_after [] texts
 
 -- a type parameter's own name
 unfoldable pub param_name : SymPath → List ℕ
@@ -34,10 +34,8 @@ texts_of shown = map (λ s. s.text) shown
 
 -- the class of this name in the package `scala`
 abbrev pub is_named : List ℕ → List SymStep → Bool
-is_named name [] = false
-is_named name (owner ∷ []) = false
 is_named name (owner ∷ step ∷ []) = is_scala owner && bytes_eq step.name name
-is_named name (owner ∷ step ∷ more ∷ steps) = false
+is_named _ _ = false
 
 -- Function0 to Function3, with their parameters and their result
 abbrev pub is_function : List SymStep → ℕ → Bool
@@ -58,9 +56,8 @@ in_parentheses text = codes "(" ++ text ++ codes ")"
 
 -- one parameter that is neither a function nor a tuple
 abbrev pub is_alone : List Shown → Bool
-is_alone [] = false
 is_alone (parameter ∷ []) = not parameter.compound
-is_alone (first ∷ second ∷ more) = false
+is_alone _ = false
 
 -- what stands before the arrow of a function
 abbrev pub parameters_text : List Shown → List ℕ
@@ -71,7 +68,7 @@ abbrev pub result_text : Option Shown → List ℕ
 result_text None = []
 result_text (Some result) = result.text
 
--- a function, of the types of its parameters and, behind these, of its result
+-- a function, of the types of its parameters and, after these, of its result
 abbrev pub function_text : List Shown → List ℕ
 function_text types =
     parameters_text (take (length types - 1) types) ++ codes " => " ++ result_text (slice_get types (length types - 1))

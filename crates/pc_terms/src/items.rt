@@ -6,7 +6,7 @@ use crate::{Row, Sig, SymPath, Text, Ty};
 /// What a typing may ask for, and what is completed lazily: the parents of a class, trait or object; the
 /// signature of one, of a member, or of a parameter or type parameter of these; and the qualifier of an
 /// import expression, by its file and the byte at which the expression starts.
-#[derive(Debug, Drop)]
+#[derive(Debug, Drop, PartialEq, Eq, Hash)]
 pub enum Item {
     Parents(SymPath),
     Signature(SymPath),

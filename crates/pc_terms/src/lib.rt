@@ -5,13 +5,12 @@
 mod errors;
 mod items;
 mod judging;
+mod limits;
 mod number;
 mod problems;
 mod row;
 mod symbol_text;
 mod symbols;
-#[cfg(test)]
-mod tests;
 mod text;
 mod tree_kinds;
 mod type_text;
@@ -20,6 +19,7 @@ mod types;
 pub use errors::{Failed, NoMemory};
 pub use items::{Asked, Infos, Item, ItemValue};
 pub use judging::{Attr, Bound, Head, Judged, Kid, Spot, UnitTypes};
+pub use limits::MAX_SOURCE_BYTES;
 pub use number::number_of as read_number;
 pub use problems::{Code, Problem, Span};
 pub use row::Row;

@@ -3,6 +3,7 @@ ghost use Rattle.std.specs.Option.{option_copied};
 
 use crate::NoMemory;
 use std::alloc::Global;
+use std::hash::{Hash, Hasher};
 use std::marker::Model;
 
 /// A `Vec` that contracts see as the list of its elements.
@@ -85,5 +86,36 @@ impl<T: Drop> Row<T> {
     {
         self.items.push(item)?;
         Ok(())
+    }
+}
+
+impl<T: PartialEq> PartialEq for Row<T> {
+    ghost use Rattle.std.specs.Cmp.Lexicographic.{pointwise, lists_per};
+
+    ghost eq = { pointwise T.eq };
+
+    ghost laws = { lists_per T.laws };
+
+    fn eq(&self, other: &Self) -> bool {
+        self.as_slice() == other.as_slice()
+    }
+}
+
+impl<T: Eq> Eq for Row<T> {
+    ghost use Rattle.std.specs.Cmp.Lexicographic.{lists_equiv};
+
+    ghost laws = { lists_equiv T.Eq.laws };
+}
+
+impl<T: Hash> Hash for Row<T> {
+    ghost use Rattle.std.specs.Hash as fed;
+    ghost use Rattle.std.specs.Hash.{items_Alike};
+
+    ghost hash_input = { λ row. fed.slice T.hash_input row };
+
+    ghost respects_eq = { (items_Alike (record { fed = T.respects_eq })).fed };
+
+    fn hash<H: Hasher>(&self, state: &mut H) {
+        self.as_slice().hash(state);
     }
 }

@@ -1,7 +1,7 @@
 use crate::{Row, Text};
 
 /// What a symbol is. A parameter of a lambda, a pattern variable and a definition of a block are `Local`.
-#[derive(Clone, Copy, Debug, PartialEq, Eq)]
+#[derive(Clone, Copy, Debug, PartialEq, Eq, Hash)]
 pub enum SymKind {
     Package,
     Class,
@@ -18,7 +18,7 @@ pub enum SymKind {
 }
 
 /// One owner of a path, or the symbol at its end.
-#[derive(Debug, Drop)]
+#[derive(Debug, Drop, PartialEq, Eq, Hash)]
 pub struct SymStep {
     pub kind: SymKind,
     pub name: Text,
@@ -28,7 +28,7 @@ pub struct SymStep {
 }
 
 /// A symbol: its owners from the outermost, and then itself.
-#[derive(Debug, Drop)]
+#[derive(Debug, Drop, PartialEq, Eq, Hash)]
 pub struct SymPath {
     pub steps: Row<SymStep>,
 }

@@ -2,7 +2,7 @@
 use Rattle.std.proofs.Common.{◌≤◌, ℕ, ◌+◌, ◌-◌, ◌^◌, min, List, [], ◌∷◌, ◌++◌, Option, Some, None, refl, sym, ap, ◌∙◌, arith, append-nil, append_assoc, inl, inr}
 use Rattle.std.specs.declared.alloc.Global.{Global}
 use Rattle.std.specs.declared.dyn_box.DynBox.{DynBox}
-use Rattle.report_hub.specs.Telling.{Entry, ReporterState, WasTold}
+use Rattle.report_hub.specs.Telling.{Finding, ReporterState, WasTold}
 use Rattle.report_hub.specs.Hub.{OfSlot, OfEach, IsTold, IsToldMost}
 use Rattle.report_hub.specs.Told.{Nothing, Keeps, LeavesOut, WasToldMost}
 
@@ -19,20 +19,20 @@ WasToldMost-none state = record {
 rose_more : (left before now after : ℕ) → min (before + left) (2 ^ 64 - 1) ≤ now → min (now + 1) (2 ^ 64 - 1) ≤ after → min (before + (left + 1)) (2 ^ 64 - 1) ≤ after
 rose_more left before now after most one = omega arith
 
-WasToldMost-more : (entries : List Entry) (entry : Entry) (old now new : ReporterState) → WasToldMost entries old now → WasTold entry now new → WasToldMost (entries ++ entry ∷ []) old new
-WasToldMost-more entries entry old now new most one = elim one.0 [
+WasToldMost-more : (findings : List Finding) (finding : Finding) (old now new : ReporterState) → WasToldMost findings old now → WasTold finding now new → WasToldMost (findings ++ finding ∷ []) old new
+WasToldMost-more findings finding old now new most one = elim one.0 [
   | inl told ↦ record {
-    kept = most.kept ++ entry ∷ [];
+    kept = most.kept ++ finding ∷ [];
     left = most.left;
-    in_order = Keeps entries most.kept most.left entry most.in_order;
-    told = told ∙ ap (λ front. front ++ entry ∷ []) most.told ∙ append_assoc old.told most.kept (entry ∷ []);
+    in_order = Keeps findings most.kept most.left finding most.in_order;
+    told = told ∙ ap (λ front. front ++ finding ∷ []) most.told ∙ append_assoc old.told most.kept (finding ∷ []);
     rose = omega (arith, most.rose, one.1);
     never_falls = omega (arith, most.never_falls, one.1);
   }
   | inr failed ↦ record {
     kept = most.kept;
     left = most.left + 1;
-    in_order = LeavesOut entries most.kept most.left entry most.in_order;
+    in_order = LeavesOut findings most.kept most.left finding most.in_order;
     told = failed.0 ∙ most.told;
     rose = rose_more most.left old.faults now.faults new.faults most.rose failed.1;
     never_falls = omega (arith, most.never_falls, one.1);
@@ -67,12 +67,12 @@ module _ {Reporter : Type 0} where
     OfEach-joined (slot ∷ old) (slot' ∷ now) [] r s = absurd s
     OfEach-joined (slot ∷ old) (slot' ∷ now) (slot'' ∷ new) r s = (OfSlot-joined slot slot' slot'' r.0 s.0, OfEach-joined old now new r.1 s.1)
 
-module _ {Kind : Type 0} {At : Kind → Type 0} (told : DynBox Kind Global At → List Entry) (faults : DynBox Kind Global At → ℕ) where
+module _ {Kind : Type 0} {At : Kind → Type 0} (told : DynBox Kind Global At → List Finding) (faults : DynBox Kind Global At → ℕ) where
   pub OfEach-told_none : (reporters : List (Option (DynBox Kind Global At))) → OfEach (IsToldMost told faults []) reporters reporters
   OfEach-told_none reporters = OfEach-same _ (λ reporter. ((refl, refl), WasToldMost-none _)) reporters
 
-  -- one entry more
-  pub OfEach-told_more : (entries : List Entry) (entry : Entry) (old now new : List (Option (DynBox Kind Global At)))
-      → OfEach (IsToldMost told faults entries) old now → OfEach (IsTold told faults entry) now new → OfEach (IsToldMost told faults (entries ++ entry ∷ [])) old new
-  OfEach-told_more entries entry old now new most one =
-      OfEach-joined _ _ _ (λ a b c r s. ((s.0.0 ∙ r.0.0, s.0.1 ∙ r.0.1), WasToldMost-more entries entry _ _ _ r.1 s.1)) old now new most one
+  -- one finding more
+  pub OfEach-told_more : (findings : List Finding) (finding : Finding) (old now new : List (Option (DynBox Kind Global At)))
+      → OfEach (IsToldMost told faults findings) old now → OfEach (IsTold told faults finding) now new → OfEach (IsToldMost told faults (findings ++ finding ∷ [])) old new
+  OfEach-told_more findings finding old now new most one =
+      OfEach-joined _ _ _ (λ a b c r s. ((s.0.0 ∙ r.0.0, s.0.1 ∙ r.0.1), WasToldMost-more findings finding _ _ _ r.1 s.1)) old now new most one

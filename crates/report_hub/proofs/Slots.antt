@@ -8,7 +8,7 @@ pub set-last : {X : Type 0} (xs : List X) (y z : X) (n : ℕ) → n ≡ length x
 set-last [] y z n is = rw is refl
 set-last (x ∷ xs) y z n is = rw is (ap (λ rest. x ∷ rest) (set-last xs y z (length xs) refl))
 
--- Of the first i elements R holds, before and after; those behind are as they were.
+-- Of the first i elements R holds, before and after; those after them are as they were.
 pub record HoldsBelow {X : Type 0} (R : X → X → Type 0) (old new : List X) (i : ℕ) : Type 0 where
   pub front : AllZip R (take i old) (take i new)
   pub back : drop i new ≡ drop i old

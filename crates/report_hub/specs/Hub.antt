@@ -4,7 +4,7 @@ use Rattle.std.specs.List.{AllZip}
 use Rattle.std.specs.declared.alloc.Global.{Global}
 use Rattle.std.specs.declared.dyn_box.DynBox.{DynBox}
 use Rattle.report_hub.specs.declared.hub.Hub.{Hub}
-use Rattle.report_hub.specs.Telling.{Entry, ReporterState, WasTold}
+use Rattle.report_hub.specs.Telling.{Finding, ReporterState, WasTold}
 use Rattle.report_hub.specs.Told.{WasToldMost}
 
 module _ {Reporter : Type 0} where
@@ -15,15 +15,14 @@ module _ {Reporter : Type 0} where
   -- R holds of who is attached under a number, before and after; no one was attached or detached
   abbrev pub OfSlot : (Reporter → Reporter → Type 0) → Option Reporter → Option Reporter → Type 0
   OfSlot R None None = ⊤
-  OfSlot R None (Some new) = ⊥
-  OfSlot R (Some old) None = ⊥
   OfSlot R (Some old) (Some new) = R old new
+  OfSlot R _ _ = ⊥
 
   -- R holds of each reporter that is attached, before and after, and no one was attached or detached.
   abbrev pub OfEach : (Reporter → Reporter → Type 0) → List (Option Reporter) → List (Option Reporter) → Type 0
   OfEach R old new = AllZip (OfSlot R) old new
 
-  abbrev pub state_of : (Reporter → List Entry) → (Reporter → ℕ) → Reporter → ReporterState
+  abbrev pub state_of : (Reporter → List Finding) → (Reporter → ℕ) → Reporter → ReporterState
   state_of told faults reporter = record { told = told reporter; faults = faults reporter }
 
 module _ {Kind : Type 0} {At : Kind → Type 0} where
@@ -41,9 +40,9 @@ module _ {Kind : Type 0} {At : Kind → Type 0} where
   IsSameBox old new = (new.ptr ≡ old.ptr) × (new.vtable ≡ old.vtable)
 
   -- One report was made to the reporter in this box.
-  abbrev pub IsTold : (DynBox Kind Global At → List Entry) → (DynBox Kind Global At → ℕ) → Entry → DynBox Kind Global At → DynBox Kind Global At → Type 0
-  IsTold told faults entry old new = IsSameBox old new × WasTold entry (state_of told faults old) (state_of told faults new)
+  abbrev pub IsTold : (DynBox Kind Global At → List Finding) → (DynBox Kind Global At → ℕ) → Finding → DynBox Kind Global At → DynBox Kind Global At → Type 0
+  IsTold told faults finding old new = IsSameBox old new × WasTold finding (state_of told faults old) (state_of told faults new)
 
-  -- These entries were reported to it, one after another.
-  abbrev pub IsToldMost : (DynBox Kind Global At → List Entry) → (DynBox Kind Global At → ℕ) → List Entry → DynBox Kind Global At → DynBox Kind Global At → Type 0
-  IsToldMost told faults entries old new = IsSameBox old new × WasToldMost entries (state_of told faults old) (state_of told faults new)
+  -- These findings were reported to it, one after another.
+  abbrev pub IsToldMost : (DynBox Kind Global At → List Finding) → (DynBox Kind Global At → ℕ) → List Finding → DynBox Kind Global At → DynBox Kind Global At → Type 0
+  IsToldMost told faults findings old new = IsSameBox old new × WasToldMost findings (state_of told faults old) (state_of told faults new)

@@ -4,30 +4,30 @@ use Rattle.pc_terms.specs.declared.problems.Problem.{Problem}
 use Rattle.pc_outside.specs.Outside.{Rose}
 
 -- the bytes of a file's name, and the problems that the file was found to have
-abbrev pub Entry : Type 0
-Entry = List ℕ × List Problem
+abbrev pub Finding : Type 0
+Finding = List ℕ × List Problem
 
 -- What is seen of a reporter.
 pub record ReporterState : Type 0 where
   -- what it was told, in order
-  pub told : List Entry
+  pub told : List Finding
   -- how many reports to it have failed
   pub faults : ℕ
 
 -- ---- a report
 
 -- a report that is told is appended, and one that fails is not
-abbrev pub Appends : {V E : Type 0} → Result V E → Entry → List Entry → List Entry → Type 0
-Appends (Ok done) entry told told' = told' ≡ told ++ entry ∷ []
-Appends (Err failed) entry told told' = told' ≡ told
+abbrev pub Appends : {V E : Type 0} → Result V E → Finding → List Finding → List Finding → Type 0
+Appends (Ok done) finding told told' = told' ≡ told ++ finding ∷ []
+Appends (Err failed) finding told told' = told' ≡ told
 
 -- what a report does to the count of faults
 abbrev pub ReportCounts : {V E : Type 0} → Result V E → ℕ → ℕ → Type 0
 ReportCounts (Ok done) before now = before ≤ now
 ReportCounts (Err failed) before now = Rose before now × (before ≤ now)
 
--- Once a reporter was told an entry: it was told what it had been told before and then this entry, unless the report
+-- Once a reporter was told a finding: it was told what it had been told before and then this finding, unless the report
 -- failed, and then its count of faults rose.
-abbrev pub WasTold : Entry → ReporterState → ReporterState → Type 0
-WasTold entry old new =
-    ((new.told ≡ old.told ++ entry ∷ []) ⊎ ((new.told ≡ old.told) × Rose old.faults new.faults)) × (old.faults ≤ new.faults)
+abbrev pub WasTold : Finding → ReporterState → ReporterState → Type 0
+WasTold finding old new =
+    ((new.told ≡ old.told ++ finding ∷ []) ⊎ ((new.told ≡ old.told) × Rose old.faults new.faults)) × (old.faults ≤ new.faults)

@@ -1,9 +1,6 @@
 ghost use Rattle.std.specs.Prelude.{◌≡◌, [], ◌∷◌, ◌++◌, length, None, Some, slice_set, IfOk, IfErr, OnOk, OnErr};
 ghost use Rattle.report_hub.specs.Hub.{reporters_of, attached_at, IsTold, OfEach};
 
-#[cfg(test)]
-mod tests;
-
 use crate::Reporter;
 use pc_terms::{NoMemory, Problem, Row, Text};
 use std::alloc::Global;
@@ -32,8 +29,8 @@ impl Hub {
         })
     }
 
-    /// Attaches a reporter, and gives its number. Numbers count up from 0, and none is given twice. The one
-    /// refusal is want of memory, and it hands the reporter back.
+    /// Attaches a reporter, and gives its number. Numbers count up from 0, and none is given twice. Out of
+    /// memory it hands the reporter back.
     pub fn attach(
         &mut self,
         reporter: Box<dyn Reporter + Send>,

@@ -4,10 +4,10 @@ use pc_terms::{Failed, Problem, Row, Text};
 
 /// Who is told what the checks in the background find.
 pub trait Reporter: Drop {
-    ghost use Rattle.report_hub.specs.Telling.{Entry, Appends, ReportCounts};
+    ghost use Rattle.report_hub.specs.Telling.{Finding, Appends, ReportCounts};
 
     /// What it was told, in order.
-    ghost told: { Self → List Entry };
+    ghost told: { Self → List Finding };
 
     /// How many reports have failed. It never falls.
     ghost faults: { Self → ℕ };

@@ -1,4 +1,4 @@
--- What the calls on cells do. The cell of a ticket stands in the list at that place.
+-- What the calls on cells do. The list has the cell of ticket t at position t.
 use Rattle.std.specs.Prelude.{ℕ, ◌+◌, ◌-◌, List, ◌++◌, length, replicate, slice_get, slice_set, Option, Some, None}
 use Rattle.ask_history.specs.declared.answers.Answer.{Answer}
 use Rattle.response_cell.specs.declared.cells.Cell.{Cell}
@@ -6,14 +6,12 @@ use Rattle.response_cell.specs.declared.cells.Cell.TheVariants.{Empty, Set, Take
 
 -- the answer that can be taken
 abbrev pub answer_in : Cell → Option Answer
-answer_in Empty = None
 answer_in (Set answer) = Some answer
-answer_in Taken = None
+answer_in _ = None
 
 abbrev pub after_take : Cell → Cell
-after_take Empty = Empty
 after_take (Set answer) = Taken
-after_take Taken = Taken
+after_take cell = cell
 
 -- an empty cell for every ticket up to and with this one that has none, and the others as they were
 abbrev pub covered : List Cell → ℕ → List Cell

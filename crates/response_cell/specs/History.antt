@@ -22,9 +22,8 @@ after (Take ticket ∷ earlier) = taken (after earlier) ticket
 -- no answer was put into a cell that was not empty
 abbrev pub AreAllowed : List Change → Type 0
 AreAllowed [] = ⊤
-AreAllowed (Cover ticket ∷ earlier) = AreAllowed earlier
 AreAllowed (Set ticket answer ∷ earlier) = (slice_get (after earlier) ticket ≡ Some cell.Empty) × AreAllowed earlier
-AreAllowed (Take ticket ∷ earlier) = AreAllowed earlier
+AreAllowed (_ ∷ earlier) = AreAllowed earlier
 
 -- what a `take` of this ticket answers
 abbrev pub answer_at : List Cell → ℕ → Option Answer
@@ -33,17 +32,15 @@ answer_at cells ticket = option_and_then answer_in (slice_get cells ticket)
 -- the answers that were set for a ticket
 abbrev pub set_for : List Change → ℕ → List Answer
 set_for [] ticket = []
-set_for (Cover other ∷ earlier) ticket = set_for earlier ticket
 set_for (Set other answer ∷ earlier) ticket = if other == ticket then answer ∷ set_for earlier ticket else set_for earlier ticket
-set_for (Take other ∷ earlier) ticket = set_for earlier ticket
+set_for (_ ∷ earlier) ticket = set_for earlier ticket
 
 -- the answers that were handed out for it
 abbrev pub taken_for : List Change → ℕ → List Answer
 taken_for [] ticket = []
-taken_for (Cover other ∷ earlier) ticket = taken_for earlier ticket
-taken_for (Set other answer ∷ earlier) ticket = taken_for earlier ticket
 taken_for (Take other ∷ earlier) ticket =
     if other == ticket then option_to_list (answer_at (after earlier) ticket) ++ taken_for earlier ticket else taken_for earlier ticket
+taken_for (_ ∷ earlier) ticket = taken_for earlier ticket
 
 -- Of a ticket one answer is set at most, and handed out once at most, and what is handed out is what was set.
 -- A `take` answers it exactly where it was set and not yet handed out.

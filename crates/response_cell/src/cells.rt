@@ -1,9 +1,6 @@
 ghost use Rattle.std.specs.Prelude.{◌≡◌, [], Some, slice_get, slice_set, OnOk, OnErr, IfOk};
 ghost use Rattle.std.specs.Option.{option_and_then};
 
-#[cfg(test)]
-mod tests;
-
 use ask_history::Answer;
 use pc_terms::NoMemory;
 use std::alloc::Global;

@@ -97,7 +97,7 @@ module _ {T : Type 0} where
     | inr differs ↦ rw differs.0 (list_any-tickets (removed stack ticket) entry.ticket ∙ is_on-removed stack ticket entry.ticket (sym (list_any-tickets stack entry.ticket) ∙ distinct.0), AreDistinct-removed stack ticket distinct.1)
   ]
 
-  -- another entry with the ticket of the one in its place
+  -- another entry with the ticket of the one in its stead
   pub AreDistinct-set : (stack : List (Entry T)) (i : ℕ) (entry other : Entry T) → entry.ticket ≡ (get_or stack i other).ticket → AreDistinct (tickets stack) → AreDistinct (tickets (set stack i entry))
   AreDistinct-set stack i entry other same distinct = rw (map-set_same ticket_of stack i entry other same) distinct
 
@@ -130,7 +130,7 @@ module _ {T : Type 0} where
   pub has_stale-none : (stack : List (Entry T)) (ticket : ℕ) → All (λ entry. has_ticket ticket entry ≡ false) stack → has_stale stack ticket ≡ false
   has_stale-none stack ticket none = has_stale-absent stack ticket (none_on stack ticket none)
 
-  -- ---- where the task at a place has it
+  -- ---- where the task at an index has it
 
   pub within : (stack : List (Entry T)) (i ticket : ℕ) → option_map ticket_of (slice_get stack i) ≡ Some ticket → i < length stack
   within [] i ticket at = absurd (cc)
@@ -183,12 +183,12 @@ module _ {T : Type 0} where
 -- ---- the top
 
 module _ {T : Type 0} where
-  -- the last place of a stack that is not empty
+  -- the last index of a stack that is not empty
   pub some_last : (stack : List (Entry T)) (n : ℕ) → stack ≢ [] → n ≡ length stack → suc (n - 1) ≡ length stack
   some_last [] n some is = absurd (some refl)
   some_last (entry ∷ stack) n some is = omega arith
 
-  -- the entry at the last place is on top
+  -- the entry at the last index is on top
   pub top_of-last : (stack : List (Entry T)) (i : ℕ) (entry : Entry T) → suc i ≡ length stack → entry ≡ get_or stack i entry → top_of stack ≡ Some entry
   top_of-last [] i entry last is = absurd (omega arith)
   top_of-last (only ∷ []) zero entry last is = ap Some (sym is)
@@ -202,7 +202,7 @@ module _ {T : Type 0} where
   slice_get-last (below ∷ next ∷ above) =
       let e : length (below ∷ next ∷ above) - 1 ≡ suc (length (next ∷ above) - 1) = omega arith in rw e (slice_get-last (next ∷ above))
 
-  -- a change of the entry at the last place
+  -- a change of the entry at the last index
   pub top_changed-last : (change : Entry T → Entry T) (stack : List (Entry T)) (i : ℕ) (entry : Entry T) → suc i ≡ length stack → entry ≡ get_or stack i entry → set stack i (change entry) ≡ top_changed change stack
   top_changed-last change [] i entry last is = absurd (omega arith)
   top_changed-last change (only ∷ []) zero entry last is = ap (λ e. change e ∷ []) is

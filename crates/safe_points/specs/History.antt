@@ -27,10 +27,7 @@ module _ {T : Type 0} where
   abbrev pub AreAllowed : List (Change T) → Type 0
   AreAllowed [] = ⊤
   AreAllowed (Push ticket task ∷ earlier) = (is_on (after earlier) ticket ≡ false) × AreAllowed earlier
-  AreAllowed (Work task ∷ earlier) = AreAllowed earlier
-  AreAllowed (Remove ticket ∷ earlier) = AreAllowed earlier
-  AreAllowed (StaleAll ∷ earlier) = AreAllowed earlier
-  AreAllowed (RefreshTop ∷ earlier) = AreAllowed earlier
+  AreAllowed (_ ∷ earlier) = AreAllowed earlier
 
   -- whether the task of this ticket is on top
   abbrev pub is_top : List (Entry T) → ℕ → Bool
@@ -40,7 +37,6 @@ module _ {T : Type 0} where
   abbrev pub must_restart : List (Change T) → ℕ → Bool
   must_restart [] ticket = false
   must_restart (Push pushed task ∷ earlier) ticket = if pushed == ticket then false else must_restart earlier ticket
-  must_restart (Work task ∷ earlier) ticket = must_restart earlier ticket
-  must_restart (Remove other ∷ earlier) ticket = must_restart earlier ticket
   must_restart (StaleAll ∷ earlier) ticket = true
   must_restart (RefreshTop ∷ earlier) ticket = if is_top (after earlier) ticket then false else must_restart earlier ticket
+  must_restart (_ ∷ earlier) ticket = must_restart earlier ticket

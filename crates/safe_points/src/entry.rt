@@ -11,8 +11,8 @@ pub struct Entry<T> {
 }
 
 // Where the task of this ticket is. It is looked for from the top, where it mostly is.
-pub(crate) fn place_of<T>(entries: &[Entry<T>], ticket: u64) -> Option<usize>
-    ensures found { IfSome result (λ place. option_map ticket_of (slice_get entries.now place) ≡ Some ticket) }
+pub(crate) fn index_of<T>(entries: &[Entry<T>], ticket: u64) -> Option<usize>
+    ensures found { IfSome result (λ index. option_map ticket_of (slice_get entries.now index) ≡ Some ticket) }
     ensures absent { IfNone result (All (λ entry. has_ticket ticket entry ≡ false) entries.now) }
 {
     entries.iter().rposition(|entry| entry.ticket == ticket)

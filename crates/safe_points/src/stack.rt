@@ -2,11 +2,8 @@ ghost use Rattle.std.specs.Prelude.{◌≡◌, ◌≢◌, [], ◌∷◌, ◌++�
 ghost use Rattle.std.specs.Option.{option_map};
 ghost use Rattle.std.specs.Borrow.{sem};
 
-#[cfg(test)]
-mod tests;
-
 use crate::Entry;
-use crate::entry::place_of;
+use crate::entry::index_of;
 use pc_terms::NoMemory;
 use std::alloc::Global;
 use std::marker::Model;
@@ -67,12 +64,12 @@ impl<T> Stack<T> {
         ensures task { result ≡ task_of self.old ticket }
         ensures rest { self.new ≡ removed self.old ticket }
     {
-        let place = place_of(self.entries.as_slice(), ticket)?;
+        let index = index_of(self.entries.as_slice(), ticket)?;
         let Entry {
             task,
             ticket: _,
             stale: _,
-        } = self.entries.remove(place);
+        } = self.entries.remove(index);
         Some(task)
     }
 
@@ -89,8 +86,8 @@ impl<T> Stack<T> {
     pub fn is_stale(&self, ticket: u64) -> bool
         ensures { result ≡ has_stale self.now ticket }
     {
-        match place_of(self.entries.as_slice(), ticket) {
-            Some(place) => self.entries[place].stale,
+        match index_of(self.entries.as_slice(), ticket) {
+            Some(index) => self.entries[index].stale,
             None => false,
         }
     }

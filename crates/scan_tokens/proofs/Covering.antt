@@ -417,7 +417,7 @@ Interpolated-fits piece after e =
     let text : piece ++ after ≡ p.letter ∷ (p.run ++ (p.operators ++ 34 ∷ (e.string ++ after))) =
     ap (λ ws. ws ++ after) (e.text ∙ ap (λ n. n ++ 34 ∷ e.string) p.text) ∙ append_assoc (p.letter ∷ (p.run ++ p.operators)) (34 ∷ e.string) after
     ∙ ap (λ ws. p.letter ∷ ws) (append_assoc p.run p.operators (34 ∷ (e.string ++ after))) in
-    rw text (Interpolated-covers p.letter p.run p.operators e.shape e.string after p.begins p.runs p.operates p.underscore reserved e.strings)
+    rw text (Interpolated-covers p.letter p.run p.operators e.shape e.string after p.begins p.runs p.operates p.low_line reserved e.strings)
 
 pub Backquoted-fits : (piece after : Chars) → IsBackquoted piece → Covers shape.Backquoted after (read (piece ++ after))
 Backquoted-fits piece after e = rw (e.text, append_assoc) (Backquoted-covers e.first e.others after e.between)
@@ -426,7 +426,7 @@ pub Character-fits : (piece after : Chars) → IsCharacter piece → Covers shap
 Character-fits piece after e = rw (e.text, append_assoc) (Character-covers e.quoted after e.proper)
 
 pub Plain-fits : (piece after : Chars) → IsPlain piece after → Covers shape.Plain after (read (piece ++ after))
-Plain-fits piece after e = rw (e.text, append_assoc) (Plain-covers e.letter e.run e.operators after e.begins e.runs e.operates e.underscore)
+Plain-fits piece after e = rw (e.text, append_assoc) (Plain-covers e.letter e.run e.operators after e.begins e.runs e.operates e.low_line)
 
 pub Operator-fits : (piece after : Chars) → IsOperator piece after → Covers shape.Operator after (read (piece ++ after))
 Operator-fits piece after e =

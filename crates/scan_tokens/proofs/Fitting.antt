@@ -654,7 +654,7 @@ Letter-fits c cs e =
         begins = e;
         runs = n.runs;
         operates = n.operates;
-        underscore = underscored n.run n.operators n.ends;
+        low_line = underscored n.run n.operators n.ends;
       }
 
       interpolated : (t : StringCut (past_one (past_name false cs)) (string (past_one (past_name false cs))))

@@ -1,6 +1,8 @@
 -- The characters of a text, each a Unicode code point, by what they can be part of (SLS 1).
-use Rattle.std.specs.Prelude.{ℕ, ◌-◌, Bool, true, false, not, ◌||◌, ◌&&◌, ◌==◌, nat_le, if◌then◌else◌, List, [], ◌∷◌, length, encode_utf8_all, take}
+use Rattle.std.specs.Prelude.{ℕ, ◌-◌, Bool, true, false, not, ◌||◌, ◌&&◌, ◌==◌, nat_le, if◌then◌else◌, List, [], ◌∷◌, length, encode_utf8_all, take, codes}
+use Rattle.std.specs.List.{list_any}
 use Rattle.std.specs.Char.{is_ascii_alphanumeric}
+use Rattle.pc_terms.specs.Bytes.{tab, line_feed, form_feed, carriage_return, space, quote, dollar, apostrophe, digit_zero, digit_nine, underscore, backquote, letter_u}
 use Rattle.unicode.specs.GeneralCategory.{general_category}
 use Rattle.ucd_category.specs.declared.GeneralCategory.{GeneralCategory}
 use Rattle.ucd_category.specs.declared.GeneralCategory.TheVariants.{LowercaseLetter, UppercaseLetter, TitlecaseLetter, OtherLetter, LetterNumber, MathSymbol, OtherSymbol}
@@ -9,7 +11,7 @@ use Rattle.scan_tokens.specs.declared.characters.Class.TheVariants.{Space, Lette
 use Rattle.scan_tokens.specs.declared.characters.Run.{Run}
 use Rattle.scan_tokens.specs.declared.characters.Run.TheVariants.{Spaces, LettersAndDigits, AsciiAlphanumerics, LineRest, BetweenBackquotes, Quotes, Us}
 
--- the characters from a place of the text on
+-- the characters from one of the text on
 abbrev pub Chars : Type 0
 Chars = List ℕ
 
@@ -23,28 +25,26 @@ class_in MathSymbol = Operator
 class_in OtherSymbol = Operator
 class_in _ = Other
 
--- space, tab, CR, LF, form feed
 abbrev pub is_space : ℕ → Bool
-is_space c = c == 32 || c == 9 || c == 13 || c == 10 || c == 12
+is_space c = c == space || c == tab || c == carriage_return || c == line_feed || c == form_feed
 
 abbrev pub is_digit : ℕ → Bool
-is_digit c = nat_le 48 c && nat_le c 57
+is_digit c = nat_le digit_zero c && nat_le c digit_nine
 
--- ( ) [ ] { } . , ;
+-- the character is one of these
+abbrev pub is_one_of : List ℕ → ℕ → Bool
+is_one_of among c = list_any (λ d. c == d) among
+
 abbrev pub is_delimiter : ℕ → Bool
-is_delimiter c = c == 40 || c == 41 || c == 91 || c == 93 || c == 123 || c == 125 || c == 46 || c == 44 || c == 59
+is_delimiter c = is_one_of (codes "()[]{}.,;") c
 
--- ! # % & * + - / : < = > ? @ \ ^ | ~
 abbrev pub is_ascii_operator : ℕ → Bool
-is_ascii_operator c =
-    c == 33 || c == 35 || c == 37 || c == 38 || c == 42 || c == 43 || c == 45 || c == 47 || c == 58 || c == 60 || c == 61 || c == 62
-    || c == 63 || c == 64 || c == 92 || c == 94 || c == 124 || c == 126
+is_ascii_operator c = is_one_of (codes "!#%&*+-/:<=>?@\\^|~") c
 
--- 39 is ', 34 is ", 96 is `, 36 is $ and 95 is _
 unfoldable pub class_of : ℕ → Class
 class_of c =
-    if is_space c then Space else (if is_digit c then Digit else (if c == 39 then Apostrophe else (if c == 34 then Quote else (if c == 96 then Backquote
-    else (if c == 36 || c == 95 then Letter else (if is_delimiter c then Delimiter else (if is_ascii_operator c then Operator
+    if is_space c then Space else (if is_digit c then Digit else (if c == apostrophe then Apostrophe else (if c == quote then Quote else (if c == backquote then Backquote
+    else (if c == dollar || c == underscore then Letter else (if is_delimiter c then Delimiter else (if is_ascii_operator c then Operator
     else class_in (general_category c))))))))
 
 abbrev pub is_operator : Class → Bool
@@ -56,15 +56,14 @@ is_letter_or_digit Letter = true
 is_letter_or_digit Digit = true
 is_letter_or_digit _ = false
 
--- 117 is u
 unfoldable pub in_run : Run → ℕ → Bool
 in_run Spaces c = is_space c
 in_run LettersAndDigits c = is_letter_or_digit (class_of c)
 in_run AsciiAlphanumerics c = is_ascii_alphanumeric c
-in_run LineRest c = not (c == 10)
-in_run BetweenBackquotes c = not (c == 10 || c == 9 || c == 96)
-in_run Quotes c = c == 34
-in_run Us c = c == 117
+in_run LineRest c = not (c == line_feed)
+in_run BetweenBackquotes c = not (c == line_feed || c == tab || c == backquote)
+in_run Quotes c = c == quote
+in_run Us c = c == letter_u
 
 -- from the first character on that is not of the run
 abbrev pub past : Run → Chars → Chars
@@ -94,6 +93,6 @@ byte_len cs = length (encode_utf8_all cs)
 abbrev pub offset : ℕ → Chars → ℕ
 offset total left = total - byte_len left
 
--- the bytes from one place on, up to a later one
+-- the bytes from the first characters on, up to the later ones
 abbrev pub bytes_up_to : Chars → Chars → List ℕ
 bytes_up_to from after = take (byte_len from - byte_len after) (encode_utf8_all from)

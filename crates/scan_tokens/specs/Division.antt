@@ -2,6 +2,7 @@
 -- any shape begins where it begins.
 use Rattle.std.specs.Prelude.{◌≡◌, ◌≤◌, ℕ, Bool, true, false, not, ◌||◌, ◌&&◌, ◌==◌, ◌⊎◌, List, [], ◌∷◌, ◌++◌, length, encode_utf8_all}
 use Rattle.std.specs.Char.{is_ascii_alphanumeric, is_ascii_hexdigit}
+use Rattle.pc_terms.specs.Bytes.{tab, line_feed, quote, apostrophe, star, slash, backslash, underscore, backquote, letter_u}
 use Rattle.scan_tokens.specs.declared.characters.Class.{Class}
 use Rattle.scan_tokens.specs.declared.characters.Class.TheVariants as class
 use Rattle.scan_tokens.specs.declared.shapes.Shape.{Shape}
@@ -23,32 +24,31 @@ pub data Inside : Type 0 where
   Other : ℕ → Inside → Inside
   Nested : Inside → Inside → Inside
 
--- 42 is * and 47 is /
 abbrev pub inside_text : Inside → Chars
-inside_text End = 42 ∷ 47 ∷ []
+inside_text End = star ∷ slash ∷ []
 inside_text (Other c i) = c ∷ inside_text i
-inside_text (Nested j i) = 47 ∷ 42 ∷ (inside_text j ++ inside_text i)
+inside_text (Nested j i) = slash ∷ star ∷ (inside_text j ++ inside_text i)
 
 -- no other character is the first of a */ or /*
 abbrev pub IsInside : Inside → Type 0
 IsInside End = Unit {0}
-IsInside (Other c i) = (next_are 42 47 (c ∷ inside_text i) ≡ false) × (next_are 47 42 (c ∷ inside_text i) ≡ false) × IsInside i
+IsInside (Other c i) = (next_are star slash (c ∷ inside_text i) ≡ false) × (next_are slash star (c ∷ inside_text i) ≡ false) × IsInside i
 IsInside (Nested j i) = IsInside j × IsInside i
 
 pub record IsBlockComment (piece : Chars) : Type 0 where
   pub inside : Inside
   pub proper : IsInside inside
-  pub text : piece ≡ 47 ∷ 42 ∷ inside_text inside
+  pub text : piece ≡ slash ∷ star ∷ inside_text inside
 
 pub record IsLineComment (piece : Chars) : Type 0 where
   pub line : Chars
-  pub text : piece ≡ 47 ∷ 47 ∷ line
-  pub one_line : Each (λ c. not (c == 10)) line
+  pub text : piece ≡ slash ∷ slash ∷ line
+  pub one_line : Each (λ c. not (c == line_feed)) line
 
 -- a comment that nothing closes up to the end of the text
 pub record IsOpenComment (piece after : Chars) : Type 0 where
   pub rest : Chars
-  pub text : piece ≡ 47 ∷ 42 ∷ rest
+  pub text : piece ≡ slash ∷ star ∷ rest
   pub last : after ≡ []
   pub not_closed : (front back : Chars) → piece ≡ front ++ back → IsBlockComment front → ⊥
 
@@ -58,9 +58,9 @@ pub record IsOpenComment (piece after : Chars) : Type 0 where
 abbrev pub AreOperators : Chars → Chars → Type 0
 AreOperators [] after = Unit {0}
 AreOperators (c ∷ cs) after =
-    (class_of c ≡ class.Operator) × (next_are 47 47 (c ∷ (cs ++ after)) ≡ false) × (next_are 47 42 (c ∷ (cs ++ after)) ≡ false) × AreOperators cs after
+    (class_of c ≡ class.Operator) × (next_are slash slash (c ∷ (cs ++ after)) ≡ false) × (next_are slash star (c ∷ (cs ++ after)) ≡ false) × AreOperators cs after
 
--- a letter, letters and digits, and where these end in _ (95), operator characters
+-- a letter, letters and digits, and where these end in _, operator characters
 pub record IsPlain (piece after : Chars) : Type 0 where
   pub letter : ℕ
   pub run : Chars
@@ -69,7 +69,7 @@ pub record IsPlain (piece after : Chars) : Type 0 where
   pub begins : class_of letter ≡ class.Letter
   pub runs : Each (λ c. is_letter_or_digit (class_of c)) run
   pub operates : AreOperators operators after
-  pub underscore : (operators ≡ []) ⊎ ((front : Chars) × (run ≡ front ++ 95 ∷ []))
+  pub low_line : (operators ≡ []) ⊎ ((front : Chars) × (run ≡ front ++ underscore ∷ []))
 
 pub record IsOperator (piece after : Chars) : Type 0 where
   pub first : ℕ
@@ -77,12 +77,11 @@ pub record IsOperator (piece after : Chars) : Type 0 where
   pub text : piece ≡ first ∷ others
   pub operates : AreOperators piece after
 
--- 96 is the backquote
 pub record IsBackquoted (piece : Chars) : Type 0 where
   pub first : ℕ
   pub others : Chars
-  pub text : piece ≡ 96 ∷ first ∷ (others ++ 96 ∷ [])
-  pub between : Each (λ c. not (c == 10 || c == 9 || c == 96)) (first ∷ others)
+  pub text : piece ≡ backquote ∷ first ∷ (others ++ backquote ∷ [])
+  pub between : Each (λ c. not (c == line_feed || c == tab || c == backquote)) (first ∷ others)
 
 -- ---- numbers, characters and strings (SLS 1.3)
 
@@ -93,7 +92,7 @@ pub record IsRun (class : Class) (p : ℕ → Bool) (piece : Chars) : Type 0 whe
   pub begins : class_of first ≡ class
   pub runs : Each p others
 
--- a character or an escape in a literal (92 is \, 39 is ', 117 is u)
+-- a character or an escape in a literal
 pub data Quotable : Type 0 where
   Bare : ℕ → Quotable
   Pair : ℕ → Quotable
@@ -101,22 +100,22 @@ pub data Quotable : Type 0 where
 
 abbrev pub quotable_text : Quotable → Chars
 quotable_text (Bare c) = c ∷ []
-quotable_text (Pair c) = 92 ∷ c ∷ []
-quotable_text (Unicode us a b c d) = 92 ∷ 117 ∷ (us ++ a ∷ b ∷ c ∷ d ∷ [])
+quotable_text (Pair c) = backslash ∷ c ∷ []
+quotable_text (Unicode us a b c d) = backslash ∷ letter_u ∷ (us ++ a ∷ b ∷ c ∷ d ∷ [])
 
 abbrev pub IsQuotable : Quotable → Type 0
-IsQuotable (Bare c) = (c == 39 || c == 10 || c == 92) ≡ false
-IsQuotable (Pair c) = (c == 10) ≡ false
+IsQuotable (Bare c) = (c == apostrophe || c == line_feed || c == backslash) ≡ false
+IsQuotable (Pair c) = (c == line_feed) ≡ false
 IsQuotable (Unicode us a b c d) =
-    Each (λ u. u == 117) us
+    Each (λ u. u == letter_u) us
     × (is_ascii_hexdigit a ≡ true) × (is_ascii_hexdigit b ≡ true) × (is_ascii_hexdigit c ≡ true) × (is_ascii_hexdigit d ≡ true)
 
 pub record IsCharacter (piece : Chars) : Type 0 where
   pub quoted : Quotable
   pub proper : IsQuotable quoted
-  pub text : piece ≡ 39 ∷ (quotable_text quoted ++ 39 ∷ [])
+  pub text : piece ≡ apostrophe ∷ (quotable_text quoted ++ apostrophe ∷ [])
 
--- what stands in a string of one line: a character, or a \ with the character that it escapes (34 is ")
+-- what stands in a string of one line: a character, or a \ with the character that it escapes
 pub data Item : Type 0 where
   One : ℕ → Item
   Escaped : ℕ → Item
@@ -124,41 +123,41 @@ pub data Item : Type 0 where
 abbrev pub items_text : List Item → Chars
 items_text [] = []
 items_text (One c ∷ is) = c ∷ items_text is
-items_text (Escaped c ∷ is) = 92 ∷ c ∷ items_text is
+items_text (Escaped c ∷ is) = backslash ∷ c ∷ items_text is
 
 abbrev pub AreItems : List Item → Type 0
 AreItems [] = Unit {0}
-AreItems (One c ∷ is) = ((c == 34 || c == 10 || c == 92) ≡ false) × AreItems is
-AreItems (Escaped c ∷ is) = ((c == 10) ≡ false) × AreItems is
+AreItems (One c ∷ is) = ((c == quote || c == line_feed || c == backslash) ≡ false) × AreItems is
+AreItems (Escaped c ∷ is) = ((c == line_feed) ≡ false) × AreItems is
 
 -- The strings stand here without the quote that begins them.
 pub record IsLineString (piece : Chars) : Type 0 where
   pub items : List Item
   pub proper : AreItems items
-  pub text : piece ≡ items_text items ++ 34 ∷ []
+  pub text : piece ≡ items_text items ++ quote ∷ []
 
 -- three quotes begin at none of these characters
 abbrev pub HasNoThree : Chars → Chars → Type 0
 HasNoThree [] after = Unit {0}
-HasNoThree (c ∷ cs) after = ((c == 34 && next_are 34 34 (cs ++ after)) ≡ false) × HasNoThree cs after
+HasNoThree (c ∷ cs) after = ((c == quote && next_are quote quote (cs ++ after)) ≡ false) × HasNoThree cs after
 
 -- three quotes, what holds no three quotes, and three quotes or more
 pub record IsRawString (piece after : Chars) : Type 0 where
   pub body : Chars
   pub quotes : Chars
-  pub text : piece ≡ 34 ∷ 34 ∷ (body ++ (34 ∷ 34 ∷ 34 ∷ quotes))
-  pub first_three : HasNoThree body (34 ∷ 34 ∷ 34 ∷ (quotes ++ after))
-  pub only_quotes : Each (λ c. c == 34) quotes
+  pub text : piece ≡ quote ∷ quote ∷ (body ++ (quote ∷ quote ∷ quote ∷ quotes))
+  pub first_three : HasNoThree body (quote ∷ quote ∷ quote ∷ (quotes ++ after))
+  pub only_quotes : Each (λ c. c == quote) quotes
 
 -- a string that no quote closes: of one line, or up to the end of the text after three quotes
 pub record IsOpenLine (piece : Chars) : Type 0 where
   pub items : List Item
   pub proper : AreItems items
-  pub text : (piece ≡ items_text items) ⊎ (piece ≡ items_text items ++ 92 ∷ [])
+  pub text : (piece ≡ items_text items) ⊎ (piece ≡ items_text items ++ backslash ∷ [])
 
 pub record IsOpenRaw (piece after : Chars) : Type 0 where
   pub body : Chars
-  pub text : piece ≡ 34 ∷ 34 ∷ body
+  pub text : piece ≡ quote ∷ quote ∷ body
   pub last : after ≡ []
   pub no_three : HasNoThree body []
 
@@ -170,7 +169,7 @@ IsString _ piece after = ⊥
 
 pub record IsQuoted (shape : Shape) (piece after : Chars) : Type 0 where
   pub string : Chars
-  pub text : piece ≡ 34 ∷ string
+  pub text : piece ≡ quote ∷ string
   pub strings : IsString shape string after
 
 -- an identifier that is not reserved, and a string that follows at once
@@ -178,8 +177,8 @@ pub record IsInterpolated (piece after : Chars) : Type 0 where
   pub name : Chars
   pub shape : Shape
   pub string : Chars
-  pub text : piece ≡ name ++ 34 ∷ string
-  pub plain : IsPlain name (34 ∷ (string ++ after))
+  pub text : piece ≡ name ++ quote ∷ string
+  pub plain : IsPlain name (quote ∷ (string ++ after))
   pub not_reserved : is_reserved (encode_utf8_all name) ≡ false
   pub strings : IsString shape string after
 

@@ -3,6 +3,7 @@ use Rattle.std.specs.Prelude.{◌-◌, Bool, false, ◌||◌, ◌&&◌, ◌==◌
 use Rattle.std.specs.Char.{is_ascii_digit, is_ascii_hexdigit}
 use Rattle.std.specs.List.{list_all}
 use Rattle.std.specs.Str.{bytes_eq}
+use Rattle.pc_terms.specs.Bytes.{digit_zero, capital_l, capital_x, letter_l, letter_x}
 use Rattle.scan_tokens.specs.declared.tokens.TokenKind.{TokenKind}
 use Rattle.scan_tokens.specs.declared.tokens.TokenKind.TheVariants as kind
 use Rattle.scan_tokens.specs.declared.shapes.Shape.{Shape}
@@ -30,12 +31,12 @@ name_kind word = if is_reserved_word word then kind.Word else (if is_reserved_si
 -- `0`, or digits that do not begin with 0, or `0x` or `0X` and hexadecimal digits
 unfoldable pub is_whole : Bytes → Bool
 is_whole n =
-    if slice_index n 0 == 48 && (slice_index n 1 == 120 || slice_index n 1 == 88) then nat_lt 2 (length n) && list_all is_ascii_hexdigit (drop 2 n)
-    else (if slice_index n 0 == 48 then length n == 1 else nat_lt 0 (length n) && list_all is_ascii_digit n)
+    if slice_index n 0 == digit_zero && (slice_index n 1 == letter_x || slice_index n 1 == capital_x) then nat_lt 2 (length n) && list_all is_ascii_hexdigit (drop 2 n)
+    else (if slice_index n 0 == digit_zero then length n == 1 else nat_lt 0 (length n) && list_all is_ascii_digit n)
 
 -- L or l
 unfoldable pub has_suffix : Bytes → Bool
-has_suffix n = slice_index n (length n - 1) == 76 || slice_index n (length n - 1) == 108
+has_suffix n = slice_index n (length n - 1) == capital_l || slice_index n (length n - 1) == letter_l
 
 unfoldable pub number_kind : Bytes → TokenKind
 number_kind n =
@@ -45,16 +46,12 @@ number_kind n =
 abbrev pub kind_of : Shape → Bytes → Option TokenKind
 kind_of shape.Space bytes = None
 kind_of shape.Comment bytes = None
-kind_of shape.OpenComment bytes = Some kind.Error
 kind_of shape.Plain bytes = Some (name_kind bytes)
 kind_of shape.Operator bytes = Some (name_kind bytes)
 kind_of shape.Backquoted bytes = Some kind.BackId
 kind_of shape.Number bytes = Some (number_kind bytes)
 kind_of shape.Character bytes = Some kind.Char
-kind_of shape.Apostrophe bytes = Some kind.Error
 kind_of shape.LineString bytes = Some kind.Str
 kind_of shape.RawString bytes = Some kind.Str
-kind_of shape.OpenString bytes = Some kind.Error
-kind_of shape.Interpolated bytes = Some kind.Error
 kind_of shape.Delimiter bytes = Some kind.Delimiter
-kind_of shape.Illegal bytes = Some kind.Error
+kind_of _ bytes = Some kind.Error

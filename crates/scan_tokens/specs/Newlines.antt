@@ -1,5 +1,6 @@
 -- Before which tokens a newline counts (SLS 1.2).
 use Rattle.std.specs.Prelude.{ℕ, ◌-◌, Bool, true, false, ◌||◌, ◌&&◌, ◌==◌, if◌then◌else◌, List, [], ◌∷◌, take, drop, slice_index}
+use Rattle.pc_terms.specs.Bytes.{line_feed, open_round, close_round, open_square, close_square, open_curly, close_curly}
 use Rattle.scan_tokens.specs.declared.tokens.Newline.{Newline}
 use Rattle.scan_tokens.specs.declared.tokens.Newline.TheVariants.{No, One, Blank}
 use Rattle.scan_tokens.specs.declared.tokens.Token.{Token}
@@ -30,24 +31,20 @@ sign_role sign =
     else (if is_among arrows sign then Arrow
     else (if is_among continuing_signs sign then Continues else Begins))
 
--- ( ) [ ] { }, and else one of . , ;
+-- a bracket, and else one of . , ;
 unfoldable pub delimiter_role : Bytes → Role
 delimiter_role delimiter =
     let b = slice_index delimiter 0 in
-    if b == 40 then Opens Round else (if b == 41 then Closes Round else (if b == 91 then Opens Square else (if b == 93 then Closes Square
-    else (if b == 123 then Opens Curly else (if b == 125 then Closes Curly else Continues)))))
+    if b == open_round then Opens Round else (if b == close_round then Closes Round
+    else (if b == open_square then Opens Square else (if b == close_square then Closes Square
+    else (if b == open_curly then Opens Curly else (if b == close_curly then Closes Curly else Continues)))))
 
 abbrev pub role_of : TokenKind → Bytes → Role
 role_of kind.Word bytes = word_role bytes
 role_of kind.Sign bytes = sign_role bytes
 role_of kind.Delimiter bytes = delimiter_role bytes
 role_of kind.Error bytes = Begins
-role_of kind.Id bytes = Ends
-role_of kind.BackId bytes = Ends
-role_of kind.Int bytes = Ends
-role_of kind.Long bytes = Ends
-role_of kind.Char bytes = Ends
-role_of kind.Str bytes = Ends
+role_of _ bytes = Ends
 
 abbrev pub can_end : Role → Bool
 can_end Ends = true
@@ -58,27 +55,29 @@ can_end _ = false
 abbrev pub can_begin : Role → Bool → Bool
 can_begin (Opens Square) template = false
 can_begin (Closes b) template = false
+can_begin Case template = template
 can_begin Arrow template = false
 can_begin Continues template = false
-can_begin Case template = template
 can_begin _ template = true
 
 abbrev pub is_template : Role → Bool
 is_template Template = true
 is_template _ = false
 
--- ---- the regions that are open at a place, the innermost first
+-- ---- the regions that are open before a token, the innermost first
 
 abbrev pub without_cases : List Region → List Region
 without_cases [] = []
 without_cases (InCase ∷ rs) = without_cases rs
 without_cases (Within b ∷ rs) = Within b ∷ rs
 
+abbrev pub closing_of : Bracket → ℕ
+closing_of Round = close_round
+closing_of Square = close_square
+closing_of Curly = close_curly
+
 abbrev pub same_bracket : Bracket → Bracket → Bool
-same_bracket Round Round = true
-same_bracket Square Square = true
-same_bracket Curly Curly = true
-same_bracket _ _ = false
+same_bracket a b = closing_of a == closing_of b
 
 abbrev pub without_bracket : Bracket → List Region → List Region
 without_bracket b [] = []
@@ -105,15 +104,15 @@ enables _ = false
 
 -- ---- the newlines
 
--- after white space alone a line ends (10 is LF)
+-- after white space alone a line ends
 abbrev pub ends_line : Bytes → Bool
 ends_line [] = false
-ends_line (b ∷ bs) = b == 10 || (is_space b && ends_line bs)
+ends_line (b ∷ bs) = b == line_feed || (is_space b && ends_line bs)
 
 -- the newline that these bytes between two tokens make, where `found` is that of the bytes before them
 abbrev pub newline_in : Newline → Bytes → Newline
 newline_in found [] = found
-newline_in found (b ∷ bs) = if b == 10 then (if ends_line bs then Blank else newline_in One bs) else newline_in found bs
+newline_in found (b ∷ bs) = if b == line_feed then (if ends_line bs then Blank else newline_in One bs) else newline_in found bs
 
 abbrev pub bytes_between : Bytes → ℕ → ℕ → Bytes
 bytes_between text start end = take (end - start) (drop start text)

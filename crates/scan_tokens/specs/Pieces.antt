@@ -2,6 +2,7 @@
 use Rattle.std.specs.Prelude.{ℕ, zero, suc, List, [], ◌∷◌, ◌++◌, length, map, codes, Option, Some, None, false}
 use Rattle.std.specs.Option.{option_to_list}
 use Rattle.std.specs.List.{flat_map}
+use Rattle.pc_terms.specs.Bytes.{quote, apostrophe}
 use Rattle.pc_terms.specs.declared.problems.Span.{Span}
 use Rattle.pc_terms.specs.declared.problems.Problem.{Problem}
 use Rattle.pc_terms.specs.declared.problems.Code.{Code}
@@ -86,10 +87,10 @@ message_of fault.Interpolated = codes "interpolated string"
 abbrev pub problem_of : Fault → Span → Problem
 problem_of fault span = record { code = code_of fault; span = span; text = message_of fault }
 
--- where the pairs are in a piece that are no escape: in character literals and strings of one line (39 is ', 34 is ")
+-- where the pairs are in a piece that are no escape: in character literals and strings of one line
 abbrev pub bad_escapes_of : ℕ → Shape → Chars → List Span
-bad_escapes_of total shape.Character cs = bad_escapes total 39 false (past_one cs)
-bad_escapes_of total shape.LineString cs = bad_escapes total 34 false (past_one cs)
+bad_escapes_of total shape.Character cs = bad_escapes total apostrophe false (past_one cs)
+bad_escapes_of total shape.LineString cs = bad_escapes total quote false (past_one cs)
 bad_escapes_of total _ cs = []
 
 -- what is wrong with a piece as a whole, and in it

@@ -1,5 +1,6 @@
 -- The piece at the front of a text: a token, white space or a comment (SLS 1).
 use Rattle.std.specs.Prelude.{true, ℕ, ◌+◌, ◌-◌, Bool, false, not, ◌||◌, ◌&&◌, ◌==◌, if◌then◌else◌, [], ◌∷◌}
+use Rattle.pc_terms.specs.Bytes.{quote, star, slash, underscore, backquote}
 use Rattle.scan_tokens.specs.declared.characters.Class.{Class}
 use Rattle.scan_tokens.specs.declared.characters.Class.TheVariants as class
 use Rattle.scan_tokens.specs.declared.characters.Run.TheVariants.{Spaces, AsciiAlphanumerics, LineRest, BetweenBackquotes}
@@ -8,43 +9,43 @@ use Rattle.scan_tokens.specs.Characters.{Chars, class_of, is_operator, is_letter
 use Rattle.scan_tokens.specs.Literals.{Cut, character, string}
 use Rattle.scan_tokens.specs.Kinds.{is_reserved}
 
--- // or /* (47 is /, 42 is *)
+-- // or /*
 unfoldable pub begins_comment : Chars → Bool
-begins_comment cs = next_are 47 47 cs || next_are 47 42 cs
+begins_comment cs = next_are slash slash cs || next_are slash star cs
 
 -- a run of operator characters, which ends before a comment
 abbrev pub past_operators : Chars → Chars
 past_operators [] = []
 past_operators (c ∷ cs) = if is_operator (class_of c) && not (begins_comment (c ∷ cs)) then past_operators cs else c ∷ cs
 
--- A plain identifier after its first letter. `underscore` says that the run of letters and digits so far ends in _ (SLS 1.1).
+-- A plain identifier after its first letter. `after_underscore` says that the run of letters and digits so far ends in _ (SLS 1.1).
 abbrev pub past_name : Bool → Chars → Chars
-past_name underscore [] = []
-past_name underscore (c ∷ cs) =
-    if is_letter_or_digit (class_of c) then past_name (c == 95) cs else (if underscore then past_operators (c ∷ cs) else c ∷ cs)
+past_name after_underscore [] = []
+past_name after_underscore (c ∷ cs) =
+    if is_letter_or_digit (class_of c) then past_name (c == underscore) cs else (if after_underscore then past_operators (c ∷ cs) else c ∷ cs)
 
 -- A plain identifier that is not reserved makes one piece with a string that follows at once.
 abbrev pub named : Chars → Chars → Cut
 named from after =
-    if next_is 34 after && not (is_reserved (bytes_up_to from after)) then (shape.Interpolated, (string (past_one after)).1) else (shape.Plain, after)
+    if next_is quote after && not (is_reserved (bytes_up_to from after)) then (shape.Interpolated, (string (past_one after)).1) else (shape.Plain, after)
 
 -- The rest of a comment (SLS 1.4). `depth` comments are open around the innermost one. `second` says that the next character is the
--- second of a /* or */ that has been seen. 42 is * and 47 is /
+-- second of a /* or */ that has been seen.
 abbrev pub comment : ℕ → Bool → Chars → Cut
 comment depth second [] = (shape.OpenComment, [])
 comment depth true (c ∷ cs) = comment depth false cs
 comment depth false (c ∷ cs) =
-    if c == 42 && next_is 47 cs then (if depth == 0 then (shape.Comment, past_one cs) else comment (depth - 1) true cs)
-    else (if c == 47 && next_is 42 cs then comment (depth + 1) true cs else comment depth false cs)
+    if c == star && next_is slash cs then (if depth == 0 then (shape.Comment, past_one cs) else comment (depth - 1) true cs)
+    else (if c == slash && next_is star cs then comment (depth + 1) true cs else comment depth false cs)
 
 abbrev pub operator : ℕ → Chars → Cut
 operator c cs =
-    if c == 47 && next_is 47 cs then (shape.Comment, past LineRest cs)
-    else (if c == 47 && next_is 42 cs then comment 0 false (past_one cs) else (shape.Operator, past_operators cs))
+    if c == slash && next_is slash cs then (shape.Comment, past LineRest cs)
+    else (if c == slash && next_is star cs then comment 0 false (past_one cs) else (shape.Operator, past_operators cs))
 
 abbrev pub backquoted : Chars → Cut
 backquoted cs =
-    let after = past BetweenBackquotes cs in if not (next_is 96 cs) && next_is 96 after then (shape.Backquoted, past_one after) else (shape.Illegal, cs)
+    let after = past BetweenBackquotes cs in if not (next_is backquote cs) && next_is backquote after then (shape.Backquoted, past_one after) else (shape.Illegal, cs)
 
 -- a piece that begins with the character c of a class
 abbrev pub begun : Class → ℕ → Chars → Cut

@@ -1,8 +1,6 @@
 -- The reserved words and signs (SLS 1.1), and those of them that begin no statement or end one (SLS 1.2).
-use Rattle.std.specs.Prelude.{ℕ, List, [], ◌∷◌, codes}
-
-abbrev pub Bytes : Type 0
-Bytes = List ℕ
+use Rattle.std.specs.Prelude.{List, [], ◌∷◌, codes}
+pub use Rattle.pc_terms.specs.Bytes.{Bytes}
 
 unfoldable pub reserved_words : List Bytes
 reserved_words =

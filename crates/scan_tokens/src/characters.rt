@@ -177,7 +177,7 @@ pub fn offset(total: usize, left: &str) -> u32
     (total - left.len()) as u32
 }
 
-/// The bytes from one place on, up to where `after` begins.
+/// The bytes of a text up to where `after` begins.
 pub fn bytes_up_to<'a>(from: &'a str, after: &str) -> &'a [u8]
     requires { length after.now ≤ length from.now }
     ensures { result.now ≡ spec.bytes_up_to (chars from.now) (chars after.now) }

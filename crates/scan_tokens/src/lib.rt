@@ -13,11 +13,9 @@ mod regions;
 mod roles;
 mod scanner;
 mod shapes;
-#[cfg(test)]
-mod tests;
 mod tokens;
 
 pub use kinds::is_reserved_word;
 pub use laws::{law_gaps, law_newlines, law_numbers, law_one_division, law_order};
-pub use scanner::{MAX_SOURCE_LEN, scan};
+pub use scanner::scan;
 pub use tokens::{Newline, Token, TokenKind, Tokens};

@@ -69,7 +69,8 @@ fn add_piece<'a>(
     Ok(after)
 }
 
-pub fn cut(alloc: Global, text: &str) -> Result<(Row<Token>, Row<Problem>), NoMemory>
+/// The tokens of a text and its problems, piece by piece.
+pub fn divide(alloc: Global, text: &str) -> Result<(Row<Token>, Row<Problem>), NoMemory>
     requires { length text.now < 2 ^ 32 }
     ensures tokens { IfOk result (λ found. found.0 ≡ spec.tokens_in (length text.now) (chars text.now)) }
     ensures problems { IfOk result (λ found. found.1 ≡ spec.problems_in (length text.now) (chars text.now)) }

@@ -1,4 +1,4 @@
-//! The brackets and cases that are open at a place of a text; the innermost says whether newlines count there (SLS 1.2).
+//! The brackets and cases that are open before a token; the innermost says whether newlines count there (SLS 1.2).
 
 ghost use Rattle.std.specs.Prelude.{◌≡◌, [], ◌∷◌, OnOk, MatchOption};
 ghost use Rattle.scan_tokens.specs.Newlines as spec;

@@ -36,7 +36,7 @@ pub struct Token {
     pub before: Newline,
 }
 
-/// A text, its tokens in order, and what is wrong in it, ordered by place. White space and comments are no tokens.
+/// A text, its tokens in order, and what is wrong in it, in the order of their offsets. White space and comments are no tokens.
 #[derive(Debug, Drop)]
 pub struct Tokens {
     pub text: Text,

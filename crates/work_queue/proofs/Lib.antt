@@ -1,5 +1,5 @@
 pub mod Results
-pub mod EventPlaces
+pub mod EventIndexes
 pub mod Noting
 pub mod Tickets
 pub mod Logs

@@ -16,7 +16,7 @@ use Rattle.ask_history.specs.declared.events.Event.{Event}
 use Rattle.ask_history.specs.declared.events.Event.TheVariants.{Accept, Cancel, Close, Settle, Checked}
 use Rattle.ask_history.proofs.Pushes.{list_any-push, accepted-push, call_of-push, call_of-append, two-none, is_some-call_of}
 use Rattle.ask_history.proofs.Orders.{is_settled-append}
-use Rattle.work_queue.specs.Places.{close_place, cancel_place}
+use Rattle.work_queue.specs.Indexes.{close_index, cancel_index}
 use Rattle.work_queue.specs.Closing.{settled, open_below}
 use Rattle.work_queue.specs.Reloads.{reloads, reloaded_in}
 use Rattle.work_queue.specs.Tally.{IsTally}
@@ -24,9 +24,9 @@ use Rattle.work_queue.specs.QueueFacts.{IsQueue}
 use Rattle.work_queue.specs.declared.usage.Usage.{Usage}
 use Rattle.work_queue.specs.declared.tally.Tally.{Tally}
 use Rattle.work_queue.specs.declared.queue.Queue.TheInside.{Inside}
-use Rattle.work_queue.proofs.EventPlaces.{place_of-first, list_any-place_of}
+use Rattle.work_queue.proofs.EventIndexes.{index_of-first, list_any-index_of}
 use Rattle.work_queue.proofs.Noting.{none_from}
-use Rattle.work_queue.proofs.Tickets.{not-false, is_cancelled-cancel_place}
+use Rattle.work_queue.proofs.Tickets.{not-false, is_cancelled-cancel_index}
 
 pub reloads-push : (journal : List Event) (event : Event) → reloads (journal ++ event ∷ []) ≡ reloads journal ++ reloaded_in event
 reloads-push journal event = flat_map-append reloaded_in journal (event ∷ []) ∙ ap (λ es. reloads journal ++ es) (append-nil (reloaded_in event))
@@ -86,10 +86,10 @@ module _ (old : Inside) (kept : IsQueue old) where
       cc)
 
   -- an open ticket that is not cancelled may be
-  pub may_cancel : (t : ℕ) → IsTrue (is_open old.log t) → cancel_place old.log t ≡ None → IsTrue (may_follow old.log (Cancel t))
+  pub may_cancel : (t : ℕ) → IsTrue (is_open old.log t) → cancel_index old.log t ≡ None → IsTrue (may_follow old.log (Cancel t))
   may_cancel t unanswered none =
       and_from (is_open old.log t && not (is_cancelled old.log t)) (not (is_closed old.log))
-      (and_from (is_open old.log t) (not (is_cancelled old.log t)) unanswered (ap not (is_cancelled-cancel_place old.log t ∙ ap is_some none)))
+      (and_from (is_open old.log t) (not (is_cancelled old.log t)) unanswered (ap not (is_cancelled-cancel_index old.log t ∙ ap is_some none)))
       (ap not (open_unclosed t unanswered))
 
 module _ {X : Type 0} (test : X → Bool) where
@@ -118,16 +118,16 @@ reloads-settled : (tickets : List ℕ) → reloads (settled tickets) ≡ []
 reloads-settled [] = refl
 reloads-settled (t ∷ tickets) = reloads-settled tickets
 
-pub close_place-unclosed : (journal : List Event) → close_place journal ≡ None → is_closed journal ≡ false
-close_place-unclosed journal none = list_any-place_of is_close journal ∙ ap is_some none
+pub close_index-unclosed : (journal : List Event) → close_index journal ≡ None → is_closed journal ≡ false
+close_index-unclosed journal none = list_any-index_of is_close journal ∙ ap is_some none
 
 module _ (old : Inside) (kept : IsQueue old) (unclosed : is_closed old.log ≡ false) (journal : List Event)
     (is : journal ≡ old.log ++ Close ∷ settled (open_below old.log (accepted old.log))) where
-  pub close_place-closed : close_place journal ≡ Some (length old.log)
-  close_place-closed =
-      let none = none_from (close_place old.log) (sym (list_any-place_of is_close old.log) ∙ unclosed) in
-      ap close_place (is ∙ sym (append_assoc old.log (Close ∷ []) (settled (open_below old.log (accepted old.log)))))
-      ∙ position_from-append is_close 0 (old.log ++ Close ∷ []) (settled (open_below old.log (accepted old.log))) (length old.log) (place_of-first is_close old.log Close none refl)
+  pub close_index-closed : close_index journal ≡ Some (length old.log)
+  close_index-closed =
+      let none = none_from (close_index old.log) (sym (list_any-index_of is_close old.log) ∙ unclosed) in
+      ap close_index (is ∙ sym (append_assoc old.log (Close ∷ []) (settled (open_below old.log (accepted old.log)))))
+      ∙ position_from-append is_close 0 (old.log ++ Close ∷ []) (settled (open_below old.log (accepted old.log))) (length old.log) (index_of-first is_close old.log Close none refl)
 
   pub queue-close : ((t : ℕ) → t < accepted journal → is_settled journal t ≡ true) → IsTrue (is_legal journal)
       → IsQueue (record { log = journal; tally = old.tally; limits = old.limits; given = old.given })

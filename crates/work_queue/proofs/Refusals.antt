@@ -17,10 +17,10 @@ use Rattle.work_queue.specs.declared.limits.Limits.{Limits}
 use Rattle.work_queue.specs.declared.limits.PostRefused.{PostRefused}
 use Rattle.work_queue.specs.declared.limits.PostRefused.TheVariants.{TooLarge, CallsFull, TextFull, Closed, NamesFull, MapFull}
 use Rattle.work_queue.specs.declared.usage.Usage.{Usage}
-use Rattle.work_queue.specs.Places.{close_place}
+use Rattle.work_queue.specs.Indexes.{close_index}
 use Rattle.work_queue.specs.Reloads.{reloaded_by, reloads, text_bytes, usage_of}
 use Rattle.work_queue.specs.Refusal.{too_large, above, overfull, refusal}
-use Rattle.work_queue.proofs.Queues.{close_place-unclosed}
+use Rattle.work_queue.proofs.Queues.{close_index-unclosed}
 
 -- where no text is too long, all of them take no more than their number times the longest
 text_bytes-le : (limit : ℕ) (entries : List (Bytes × Bytes)) → too_large limit entries ≡ None → text_bytes entries ≤ length entries * limit
@@ -83,7 +83,7 @@ is_free limits journal call free =
     let full = overfull limits usage in
     let count : Option PostRefused = if accepted journal == limits.calls then Some (CallsFull (accepted journal)) else None in
     let size : Option PostRefused = option_map TooLarge (too_large limits.file (reloaded_by call)) in
-    let first = none_first (option_map Closed (close_place journal)) (option_or size (option_or count full)) free in
+    let first = none_first (option_map Closed (close_index journal)) (option_or size (option_or count full)) free in
     let second = none_first size (option_or count full) first.1 in
     let third = none_first count full second.1 in
     let names : Option PostRefused = option_map NamesFull (above limits.names usage.names) in
@@ -91,7 +91,7 @@ is_free limits journal call free =
     let fourth = none_first (option_map TextFull (above limits.text usage.text)) (option_or names map) third.1 in
     let fifth = none_first names map fourth.1 in
     record {
-      unclosed = close_place-unclosed journal (none_inside Closed (close_place journal) first.0);
+      unclosed = close_index-unclosed journal (none_inside Closed (close_index journal) first.0);
       small = none_inside TooLarge (too_large limits.file (reloaded_by call)) second.0;
       count = count_left (accepted journal) limits.calls (CallsFull (accepted journal)) third.0;
       text = not_above limits.text usage.text (none_inside TextFull (above limits.text usage.text) fourth.0);

@@ -1,4 +1,4 @@
-pub mod Places
+pub mod Indexes
 pub mod Log
 pub mod Reloads
 pub mod Tally

@@ -15,7 +15,7 @@ use Rattle.work_queue.specs.declared.limits.CancelSeen.{CancelSeen}
 use Rattle.work_queue.specs.declared.limits.CancelSeen.TheVariants.{Marked, Late}
 use Rattle.work_queue.specs.declared.limits.Settling.{Settling}
 use Rattle.work_queue.specs.declared.limits.Settling.TheVariants.{Value, NoMemory}
-use Rattle.work_queue.specs.Places.{cancel_place, settle_place}
+use Rattle.work_queue.specs.Indexes.{cancel_index, settle_index}
 
 -- What is seen of a queue: its journal, its limits, and how many tickets were given to be worked on.
 pub record QueueState : Type 0 where
@@ -39,11 +39,11 @@ with_events queue events = record queue { journal = queue.journal ++ events }
 
 abbrev pub late_or_marked : Option ℕ → ℕ → CancelSeen
 late_or_marked None marked = Marked marked
-late_or_marked (Some place) marked = Late place
+late_or_marked (Some index) marked = Late index
 
 -- what a cancel comes to: late where the call is settled, and marked at the call's cancel, which stands or is appended
 abbrev pub cancel_seen : List Event → ℕ → CancelSeen
-cancel_seen journal ticket = late_or_marked (settle_place journal ticket) (unwrap_or (cancel_place journal ticket) (length journal))
+cancel_seen journal ticket = late_or_marked (settle_index journal ticket) (unwrap_or (cancel_index journal ticket) (length journal))
 
 -- what a cancel appends
 abbrev pub cancelling : List Event → ℕ → List Event

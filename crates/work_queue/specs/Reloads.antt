@@ -4,28 +4,19 @@ use Rattle.std.specs.List.{flat_map, list_any, sum_by}
 use Rattle.std.specs.Str.{bytes_eq}
 use Rattle.ask_history.specs.Sources.{Bytes}
 use Rattle.ask_history.specs.declared.calls.Call.{Call}
-use Rattle.ask_history.specs.declared.calls.Call.TheVariants.{Reload, Remove, TypeAt, MembersAt, ScopeAt, LinkAt, Structure, LoadedTyped}
+use Rattle.ask_history.specs.declared.calls.Call.TheVariants.{Reload}
 use Rattle.ask_history.specs.declared.events.Event.{Event}
-use Rattle.ask_history.specs.declared.events.Event.TheVariants.{Accept, Cancel, Close, Settle, Checked}
+use Rattle.ask_history.specs.declared.events.Event.TheVariants.{Accept}
 use Rattle.work_queue.specs.declared.usage.Usage.{Usage}
 
 -- the names and texts that a call reloads
 abbrev pub reloaded_by : Call → List (Bytes × Bytes)
 reloaded_by (Reload entries) = entries
-reloaded_by (Remove names) = []
-reloaded_by (TypeAt file offset) = []
-reloaded_by (MembersAt file offset) = []
-reloaded_by (ScopeAt file offset) = []
-reloaded_by (LinkAt file offset) = []
-reloaded_by (Structure file) = []
-reloaded_by (LoadedTyped file) = []
+reloaded_by _ = []
 
 abbrev pub reloaded_in : Event → List (Bytes × Bytes)
 reloaded_in (Accept ticket client tag call) = reloaded_by call
-reloaded_in (Cancel ticket) = []
-reloaded_in Close = []
-reloaded_in (Settle ticket mark) = []
-reloaded_in (Checked file) = []
+reloaded_in _ = []
 
 -- All names and texts that accepted calls reload, in the order of the calls.
 abbrev pub reloads : List Event → List (Bytes × Bytes)

@@ -1,10 +1,11 @@
 -- What a tally keeps of reloaded entries.
-use Rattle.std.specs.Prelude.{◌≡◌, ℕ, List, Option, Some, None, Bool, true, is_some, All, if◌then◌else◌}
+use Rattle.std.specs.Prelude.{◌≡◌, ◌<◌, ℕ, ◌+◌, ◌^◌, List, length, Option, Some, None, Bool, true, is_some, All, if◌then◌else◌}
 use Rattle.std.specs.Str.{bytes_eq}
 use Rattle.indexmap.specs.IndexMap.{get_by_text}
 use Rattle.ask_history.specs.Sources.{Bytes}
-use Rattle.work_queue.specs.Reloads.{longest, longer, usage_of}
+use Rattle.work_queue.specs.Reloads.{text_bytes, longest, longer, usage_of}
 use Rattle.work_queue.specs.declared.tally.Tally.{Tally}
+use Rattle.work_queue.specs.declared.usage.Usage.{Usage}
 
 -- where a name has room, what is kept for it
 abbrev pub kept : Option (Option ℕ) → Option ℕ
@@ -18,6 +19,12 @@ known tally name = kept (get_by_text tally.longest name)
 pub record IsTally (entries : List (Bytes × Bytes)) (tally : Tally) : Type 0 where
   pub usage : tally.usage ≡ usage_of entries
   pub longest : (name : Bytes) → known tally name ≡ longest entries name
+
+-- With these entries too the counts fit 64 bits.
+pub record AreCountable (usage : Usage) (entries : List (Bytes × Bytes)) : Type 0 where
+  pub text : usage.text + text_bytes entries < 2 ^ 64
+  pub names : usage.names + length entries < 2 ^ 64
+  pub map : usage.map + text_bytes entries < 2 ^ 64
 
 -- whether room is made for a name
 abbrev pub has_room : Tally → Bytes → Bool

@@ -1,4 +1,4 @@
-//! A session's calls behind each other: what was posted, cancelled, settled and checked, kept as a legal journal.
+//! A session's calls in the order of their tickets: what was posted, cancelled, settled and checked, kept as a legal journal.
 #![tactic(auto)]
 
 mod calls;
@@ -10,6 +10,3 @@ mod usage;
 
 pub use limits::{CancelSeen, Limits, PostRefused, Settling};
 pub use queue::Queue;
-
-#[cfg(test)]
-mod tests;

@@ -24,7 +24,7 @@ pub enum PostRefused {
     CallsFull(u64),
     /// With this call, the reloads would have this many bytes of text.
     TextFull(u64),
-    /// The session was shut down, at this place of the journal.
+    /// The session was shut down, at this journal index.
     Closed(u64),
     /// Memory could not be had.
     NoMemory,
@@ -37,9 +37,9 @@ pub enum PostRefused {
 /// What a cancel comes to.
 #[derive(Clone, Copy, Debug, PartialEq, Eq)]
 pub enum CancelSeen {
-    /// The call's cancel stands at this place of the journal.
+    /// The call's cancel stands at this journal index.
     Marked(u64),
-    /// The call's answer stands at this place of the journal already.
+    /// The call's answer stands at this journal index already.
     Late(u64),
 }
 

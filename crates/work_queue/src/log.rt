@@ -2,7 +2,7 @@ ghost use Rattle.std.specs.Prelude.{◌≡◌, ℕ, ◌<◌, ◌≤◌, ◌+◌,
 ghost use Rattle.ask_history.specs.Journal.{accepted, call_of, is_closed, is_cancelled, is_settled, is_open};
 ghost use Rattle.ask_history.specs.Legal.{is_legal, may_follow};
 ghost use Rattle.ask_history.specs.declared.events.Event.TheVariants.{Accept, Cancel, Close, Settle, Checked};
-ghost use Rattle.work_queue.specs.Places.{cancel_place, settle_place, close_place};
+ghost use Rattle.work_queue.specs.Indexes.{cancel_index, settle_index, close_index};
 ghost use Rattle.work_queue.specs.Closing.{open_below, settled};
 
 use ask_history::{Call, Event, Mark};
@@ -10,15 +10,15 @@ use pc_terms::{NoMemory, Text};
 use std::alloc::Global;
 use std::marker::Model;
 
-/// Where the events of a ticket stand in the journal.
+/// The journal indexes of a ticket's events.
 #[derive(Clone, Copy, Debug)]
-pub struct Places {
+pub struct Indexes {
     pub accept: usize,
     pub cancel: Option<u64>,
     pub settle: Option<u64>,
 }
 
-impl Places {
+impl Indexes {
     ghost use Rattle.work_queue.specs.Log.{events_left};
 
     fn events_left(self) -> usize
@@ -32,11 +32,11 @@ impl Places {
     }
 }
 
-/// A legal journal. It keeps the places of each ticket's events, and room for the events that may come of them.
+/// A legal journal. It keeps the journal indexes of each ticket's events, and room for the events that may come of them.
 #[derive(Debug, Drop)]
 pub struct Log {
     events: Vec<Event>,
-    places: Vec<Places>,
+    indexes: Vec<Indexes>,
     closed: Option<u64>,
     promised: usize,
 }
@@ -61,7 +61,7 @@ impl Log {
         let events = Vec::with_capacity(alloc, 1)?;
         Ok(Log {
             events,
-            places: Vec::new(alloc),
+            indexes: Vec::new(alloc),
             closed: None,
             promised: 1,
         })
@@ -70,27 +70,27 @@ impl Log {
     pub fn accepted(&self) -> usize
         ensures { result ≡ accepted self.now }
     {
-        self.places.len()
+        self.indexes.len()
     }
 
-    pub fn close_place(&self) -> Option<u64>
-        ensures { result ≡ close_place self.now }
+    pub fn close_index(&self) -> Option<u64>
+        ensures { result ≡ close_index self.now }
     {
         self.closed
     }
 
-    pub fn cancel_place(&self, ticket: usize) -> Option<u64>
+    pub fn cancel_index(&self, ticket: usize) -> Option<u64>
         requires { ticket < accepted self.now }
-        ensures { result ≡ cancel_place self.now ticket }
+        ensures { result ≡ cancel_index self.now ticket }
     {
-        self.places[ticket].cancel
+        self.indexes[ticket].cancel
     }
 
     pub fn is_cancelled(&self, ticket: u64) -> bool
         ensures { result ≡ is_cancelled self.now ticket }
     {
-        match self.places.get(ticket as usize) {
-            Some(places) => places.cancel.is_some(),
+        match self.indexes.get(ticket as usize) {
+            Some(indexes) => indexes.cancel.is_some(),
             None => false,
         }
     }
@@ -100,15 +100,15 @@ impl Log {
         ensures unanswered { result ≡ is_open self.now ticket }
         ensures unsettled { result ≡ not (is_settled self.now ticket) }
     {
-        self.places[ticket].settle.is_none()
+        self.indexes[ticket].settle.is_none()
     }
 
-    pub fn settle_place(&self, ticket: usize) -> Option<u64>
+    pub fn settle_index(&self, ticket: usize) -> Option<u64>
         requires { ticket < accepted self.now }
-        ensures place { result ≡ settle_place self.now ticket }
+        ensures index { result ≡ settle_index self.now ticket }
         ensures unanswered { is_open self.now ticket ≡ is_none result }
     {
-        self.places[ticket].settle
+        self.indexes[ticket].settle
     }
 
     pub fn events(&self) -> &[Event]
@@ -124,7 +124,7 @@ impl Log {
     {
         let Log {
             events,
-            places: _,
+            indexes: _,
             closed: _,
             promised: _,
         } = self;
@@ -135,13 +135,13 @@ impl Log {
         requires { ticket < accepted self.now }
         ensures { call_of self.now ticket ≡ Some result.now }
     {
-        match &self.events[self.places[ticket].accept] {
+        match &self.events[self.indexes[ticket].accept] {
             Event::Accept { call, .. } => call,
             _ => unreachable!(),
         }
     }
 
-    /// Accepts a call under the next ticket, and makes room for its cancel and its settling. For want of memory the
+    /// Accepts a call under the next ticket, and makes room for its cancel and its settling. Out of memory the
     /// call comes back.
     pub fn accept(&mut self, client: u64, tag: u64, call: Call) -> Result<u64, Call>
         requires { is_closed self.old ≡ false }
@@ -156,13 +156,13 @@ impl Log {
             return Err(call);
         }
         let accept = self.events.len();
-        let ticket = self.places.len();
-        let places = Places {
+        let ticket = self.indexes.len();
+        let indexes = Indexes {
             accept,
             cancel: None,
             settle: None,
         };
-        if self.places.push(places).is_err() {
+        if self.indexes.push(indexes).is_err() {
             return Err(call);
         }
         let ticket = ticket as u64;
@@ -179,17 +179,17 @@ impl Log {
         Ok(ticket)
     }
 
-    /// Appends the ticket's cancel, and gives its place. It takes no memory.
+    /// Appends the ticket's cancel, and gives its journal index. It takes no memory.
     pub fn cancel(&mut self, ticket: usize) -> u64
         requires { IsTrue (may_follow self.old (Cancel ticket)) }
-        ensures place { result ≡ length self.old }
+        ensures index { result ≡ length self.old }
         ensures journal { self.new ≡ self.old ++ Cancel ticket ∷ [] }
         ensures legal { IsTrue (is_legal self.new) }
     {
-        let place = self.events.len() as u64;
-        let was = self.places[ticket];
-        self.places[ticket] = Places {
-            cancel: Some(place),
+        let index = self.events.len() as u64;
+        let was = self.indexes[ticket];
+        self.indexes[ticket] = Indexes {
+            cancel: Some(index),
             ..was
         };
         put(
@@ -199,7 +199,7 @@ impl Log {
             },
         );
         self.promised -= 1;
-        place
+        index
     }
 
     /// Appends the ticket's answer. It takes no memory.
@@ -208,10 +208,10 @@ impl Log {
         ensures journal { self.new ≡ self.old ++ Settle ticket mark ∷ [] }
         ensures legal { IsTrue (is_legal self.new) }
     {
-        let place = self.events.len() as u64;
-        let was = self.places[ticket];
-        self.places[ticket] = Places {
-            settle: Some(place),
+        let index = self.events.len() as u64;
+        let was = self.indexes[ticket];
+        self.indexes[ticket] = Indexes {
+            settle: Some(index),
             ..was
         };
         put(
@@ -224,31 +224,31 @@ impl Log {
         self.promised -= was.events_left();
     }
 
-    /// Appends the shutdown, and gives its place. It takes no memory.
+    /// Appends the shutdown, and gives its journal index. It takes no memory.
     pub fn shut(&mut self) -> u64
         requires { is_closed self.old ≡ false }
-        ensures place { result ≡ length self.old }
+        ensures index { result ≡ length self.old }
         ensures journal { self.new ≡ self.old ++ Close ∷ [] }
         ensures legal { IsTrue (is_legal self.new) }
     {
-        let place = self.events.len() as u64;
+        let index = self.events.len() as u64;
         put(&mut self.events, Event::Close);
-        self.closed = Some(place);
+        self.closed = Some(index);
         self.promised -= 1;
-        place
+        index
     }
 
-    /// Appends the shutdown, and the answers of all open tickets. It gives the shutdown's place, and takes no memory.
+    /// Appends the shutdown, and the answers of all open tickets. It gives the shutdown's journal index, and takes no memory.
     pub fn close(&mut self) -> u64
         requires { is_closed self.old ≡ false }
-        ensures place { result ≡ length self.old }
+        ensures index { result ≡ length self.old }
         ensures journal { self.new ≡ self.old ++ Close ∷ settled (open_below self.old (accepted self.old)) }
         ensures settled { (ticket : ℕ) → ticket < accepted self.new → is_settled self.new ticket ≡ true }
         ensures legal { IsTrue (is_legal self.new) }
     {
-        let place = self.shut();
+        let index = self.shut();
         self.settle_open();
-        place
+        index
     }
 
     fn settle_open(&mut self)

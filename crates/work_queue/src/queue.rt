@@ -5,7 +5,7 @@ ghost use Rattle.ask_history.specs.Engine.{HasFileSizes};
 ghost use Rattle.ask_history.specs.Legal.{is_legal, is_next, may_follow};
 ghost use Rattle.ask_history.specs.declared.events.Event.TheVariants.{Accept, Cancel, Close, Settle, Checked};
 ghost use Rattle.work_queue.specs.declared.limits.PostRefused.{PostRefused as Refused};
-ghost use Rattle.work_queue.specs.Places.{close_place};
+ghost use Rattle.work_queue.specs.Indexes.{close_index};
 ghost use Rattle.work_queue.specs.Closing.{after_close};
 ghost use Rattle.work_queue.specs.Reloads.{reloaded_by, reloads, usage_of};
 ghost use Rattle.work_queue.specs.Refusal.{IsWithin, refusal};
@@ -21,7 +21,7 @@ use pc_terms::{NoMemory, Row, Text};
 use std::alloc::Global;
 use std::marker::Model;
 
-/// The calls of a session behind each other.
+/// The calls of a session, in the order of their tickets.
 #[derive(Debug, Drop)]
 pub struct Queue {
     log: Log,
@@ -60,7 +60,7 @@ impl Queue {
     pub fn post(&mut self, client: u64, tag: u64, call: Call) -> Result<u64, (PostRefused, Call)>
         requires { length (reloaded_by call) < 2 ^ 32 }
 
-        // It is refused where the limits say so, and else only for want of memory.
+        // It is refused where the limits say so, and else only out of memory.
         ensures refused { (why : Refused) → refusal self.old.limits self.old.journal call ≡ Some why → result ≡ Err (why, call) }
         ensures free { refusal self.old.limits self.old.journal call ≡ None → IfErr result (λ back. back ≡ (PostRefused.NoMemory, call)) }
 
@@ -83,8 +83,8 @@ impl Queue {
         ensures usage { IfOk result (λ usage. usage ≡ usage_of (reloads self.now.journal ++ reloaded_by call.now)) }
         ensures legal { IsTrue (is_legal self.now.journal) }
     {
-        if let Some(place) = self.log.close_place() {
-            return Err(PostRefused::Closed(place));
+        if let Some(index) = self.log.close_index() {
+            return Err(PostRefused::Closed(index));
         }
         let entries = reloaded(call);
         if let Some(size) = too_large(self.limits.file, entries) {
@@ -156,7 +156,7 @@ impl Queue {
         ensures ticket { result ≡ next_ticket self.old }
         ensures queue { self.new ≡ after_next self.old }
     {
-        if self.log.close_place().is_some() || self.given == self.accepted() {
+        if self.log.close_index().is_some() || self.given == self.accepted() {
             return None;
         }
         let ticket = self.given;
@@ -179,16 +179,16 @@ impl Queue {
         ensures legal { IsTrue (is_legal self.new.journal) }
     {
         let at = ticket as usize;
-        if let Some(place) = self.log.settle_place(at) {
-            return CancelSeen::Late(place);
+        if let Some(index) = self.log.settle_index(at) {
+            return CancelSeen::Late(index);
         }
-        match self.log.cancel_place(at) {
-            Some(place) => CancelSeen::Marked(place),
+        match self.log.cancel_index(at) {
+            Some(index) => CancelSeen::Marked(index),
             None => CancelSeen::Marked(self.log.cancel(at)),
         }
     }
 
-    /// Settles the call of an open ticket, behind all earlier mutations. Gives its answer, and whether the mutation that
+    /// Settles the call of an open ticket, after all earlier mutations. Gives its answer, and whether the mutation that
     /// it is takes effect. It takes no memory.
     pub fn settle(&mut self, ticket: u64, what: Settling) -> (Effect, Answer)
         requires unanswered { IsTrue (is_open self.old.journal ticket) }
@@ -216,21 +216,21 @@ impl Queue {
         self.log.check(file)
     }
 
-    /// Shuts the session down, where it is not shut down, and settles all open tickets. Gives the place of the shutdown.
+    /// Shuts the session down, where it is not shut down, and settles all open tickets. Gives the journal index of the shutdown.
     /// It takes no memory.
     pub fn close(&mut self) -> u64
-        ensures place { close_place self.new.journal ≡ Some result }
+        ensures index { close_index self.new.journal ≡ Some result }
         ensures queue { self.new ≡ record self.old { journal = after_close self.old.journal } }
         ensures settled { (ticket : ℕ) → ticket < accepted self.new.journal → is_settled self.new.journal ticket ≡ true }
         ensures legal { IsTrue (is_legal self.new.journal) }
     {
-        match self.log.close_place() {
-            Some(place) => place,
+        match self.log.close_index() {
+            Some(index) => index,
             None => self.log.close(),
         }
     }
 
-    /// The events so far. A place is a position in them, from 0.
+    /// The events so far. An event's position in them, from 0, is its journal index.
     pub fn journal(&self) -> &[Event]
         ensures journal { result.now ≡ self.now.journal }
         ensures legal { IsTrue (is_legal self.now.journal) }

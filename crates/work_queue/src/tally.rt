@@ -1,7 +1,7 @@
 ghost use Rattle.std.specs.Prelude.{◌≡◌, ◌≤◌, ◌<◌, ◌+◌, ◌^◌, ◌++◌, List, [], ◌∷◌, length, is_some, true, false, ℕ, IfOk, OnOk, OnErr, take};
 ghost use Rattle.ask_history.specs.Sources.{Bytes};
 ghost use Rattle.indexmap.specs.IndexMap.{get_by_text};
-ghost use Rattle.work_queue.specs.Reloads.{longer, longest, text_bytes, usage_of, length_for};
+ghost use Rattle.work_queue.specs.Reloads.{longer, longest, usage_of, length_for};
 
 use crate::usage::Usage;
 use indexmap::IndexMap;
@@ -20,7 +20,7 @@ pub struct Tally {
 const FEW: usize = 8;
 
 impl Tally {
-    ghost use Rattle.work_queue.specs.Tally.{IsTally, HasRoom, TellsSame, Raises, known, has_room};
+    ghost use Rattle.work_queue.specs.Tally.{AreCountable, IsTally, HasRoom, TellsSame, Raises, known, has_room};
 
     pub fn new(alloc: Global) -> Tally
         ensures { IsTally [] result }
@@ -44,9 +44,7 @@ impl Tally {
     /// What the session would take up with these entries too. It takes no memory: where an index of the entries
     /// cannot be had, their names are compared with each other.
     pub fn usage_with(&self, entries: &[(Text, Text)]) -> Usage
-        requires text { self.now.usage.text + text_bytes entries.now < 2 ^ 64 }
-        requires names { self.now.usage.names + length entries.now < 2 ^ 64 }
-        requires map { self.now.usage.map + text_bytes entries.now < 2 ^ 64 }
+        requires { AreCountable self.now.usage entries.now }
         ensures { (before : List (Bytes × Bytes)) → IsTally before self.now → result ≡ usage_of (before ++ entries.now) }
     {
         if entries.len() <= FEW {
@@ -60,9 +58,7 @@ impl Tally {
 
     /// As `usage_with`, by a comparison of each name with those before it.
     fn compared_usage(&self, entries: &[(Text, Text)]) -> Usage
-        requires text { self.now.usage.text + text_bytes entries.now < 2 ^ 64 }
-        requires names { self.now.usage.names + length entries.now < 2 ^ 64 }
-        requires map { self.now.usage.map + text_bytes entries.now < 2 ^ 64 }
+        requires { AreCountable self.now.usage entries.now }
         ensures { (before : List (Bytes × Bytes)) → IsTally before self.now → result ≡ usage_of (before ++ entries.now) }
     {
         let mut usage = self.usage;
@@ -76,9 +72,7 @@ impl Tally {
 
     /// As `usage_with`, by an index of the names so far.
     fn indexed_usage(&self, entries: &[(Text, Text)]) -> Result<Usage, NoMemory>
-        requires text { self.now.usage.text + text_bytes entries.now < 2 ^ 64 }
-        requires names { self.now.usage.names + length entries.now < 2 ^ 64 }
-        requires map { self.now.usage.map + text_bytes entries.now < 2 ^ 64 }
+        requires { AreCountable self.now.usage entries.now }
         ensures { IfOk result (λ usage. (before : List (Bytes × Bytes)) → IsTally before self.now → usage ≡ usage_of (before ++ entries.now)) }
     {
         let mut usage = self.usage;
@@ -94,7 +88,7 @@ impl Tally {
         Ok(usage)
     }
 
-    /// Makes room for the names of these entries. The tally tells the same as before; for want of memory it keeps no name.
+    /// Makes room for the names of these entries. The tally tells the same as before; out of memory it keeps no name.
     pub fn make_room(&mut self, entries: &[(Text, Text)]) -> Result<(), NoMemory>
         ensures same { (before : List (Bytes × Bytes)) → IsTally before self.old → IsTally before self.new }
         ensures room { OnOk result (HasRoom entries.now self.new) }

@@ -1,4 +1,4 @@
--- What is written of the rest stands behind what was written before.
+-- What is written of the rest comes after what was written before.
 use Rattle.std.proofs.Common.{rules}
 use Rattle.std.proofs.Math.Seq.{take-add}
 use Rattle.std.proofs.lemmas.List.{take_rest}

@@ -21,7 +21,7 @@ overflow_sub-self c =
 
 pub invariant_of-self : goal.invariant_of-self
 invariant_of-self c =
-    log-cancel c.self.inside c.self.invariant _ c.self.view_is c.args.ticket c.index-was.result.now c.index-was.ensures _ _ c.len-place.ensures refl
+    log-cancel c.self.inside c.self.invariant _ c.self.view_is c.args.ticket c.index-was.result.now c.index-was.ensures _ _ c.len-index.ensures refl
     c.requires (record { items = c.put.ensures.items; len = c.put.ensures.len; capacity = c.put.ensures.capacity }) refl refl
 
 pub returns-clause-legal : goal.returns-clause-legal

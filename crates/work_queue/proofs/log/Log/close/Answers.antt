@@ -6,4 +6,4 @@ use Rattle.work_queue.proofs.log.Log.close.Goals as goal
 
 pub returns-clause-journal : goal.returns-clause-journal
 returns-clause-journal c =
-    c.settle_open.ensures.journal ∙ ap (λ js. js ++ settled (open_below js (accepted js))) c.shut-place.ensures.journal ∙ closed_at_once c.args.self.now
+    c.settle_open.ensures.journal ∙ ap (λ js. js ++ settled (open_below js (accepted js))) c.shut-index.ensures.journal ∙ closed_at_once c.args.self.now

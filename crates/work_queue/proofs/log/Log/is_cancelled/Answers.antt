@@ -8,7 +8,7 @@ returns-in-Some c =
     let within = subst (λ ps. c.args.ticket < length ps) c.deref.ensures.value found.3.0 in
     c.is_some.ensures
     ∙ is_cancelled-read c.self.inside c.self.invariant _ c.self.view_is c.args.ticket (listed-accepted c.self.inside c.self.invariant _ c.self.view_is c.args.ticket within)
-    c.in-Some.places.now (found.1 ∙ ap (λ ps. get_or ps c.args.ticket c.in-Some.places.now) c.deref.ensures.value)
+    c.in-Some.indexes.now (found.1 ∙ ap (λ ps. get_or ps c.args.ticket c.in-Some.indexes.now) c.deref.ensures.value)
 
 pub returns-in-None : goal.returns-in-None
 returns-in-None c =

@@ -21,7 +21,7 @@ overflow_sub-self c =
 
 pub invariant_of-self : goal.invariant_of-self
 invariant_of-self c =
-    log-settle c.self.inside c.self.invariant _ c.self.view_is c.args.ticket c.index-was.result.now c.index-was.ensures _ _ c.len-place.ensures refl
+    log-settle c.self.inside c.self.invariant _ c.self.view_is c.args.ticket c.index-was.result.now c.index-was.ensures _ _ c.len-index.ensures refl
     c.args.mark c.requires (record { items = c.put.ensures.items; len = c.put.ensures.len; capacity = c.put.ensures.capacity }) refl (ap (λ n. c.self.inside.promised - n) c.events_left.ensures)
 
 pub returns-clause-legal : goal.returns-clause-legal

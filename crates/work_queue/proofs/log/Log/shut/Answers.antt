@@ -10,7 +10,7 @@ overflow_sub-self c = shut_room c.self.inside c.self.invariant _ c.self.view_is 
 
 pub invariant_of-self : goal.invariant_of-self
 invariant_of-self c =
-    log-shut' c.self.inside c.self.invariant _ c.self.view_is c.requires _ _ c.len-place.ensures refl refl refl
+    log-shut' c.self.inside c.self.invariant _ c.self.view_is c.requires _ _ c.len-index.ensures refl refl refl
     (record { items = c.put.ensures.items; len = c.put.ensures.len; capacity = c.put.ensures.capacity })
 
 pub returns-clause-legal : goal.returns-clause-legal

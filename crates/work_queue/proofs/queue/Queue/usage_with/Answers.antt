@@ -3,20 +3,15 @@ use Rattle.ask_history.specs.Sources.{Bytes}
 use Rattle.work_queue.proofs.Refusals.{text_bytes-fits}
 use Rattle.work_queue.proofs.queue.Queue.usage_with.Goals as goal
 
-pub usage_with-usage-requires-clause-text : goal.usage_with-usage-requires-clause-text
-usage_with-usage-requires-clause-text c =
+pub usage_with-usage-requires : goal.usage_with-usage-requires
+usage_with-usage-requires c =
     let kept = c.self.invariant in
-    let within = kept.within.text in
-    let used = kept.text in
-    text_bytes-fits c.self.inside.limits.file c.self.inside.tally.usage.text c.reloaded-entries.result.now
-    (sym c.too_large.ensures ∙ c.in_default-too_large.is) kept.within.file
-    (subst (λ (es : List (Bytes × Bytes)). length es < 2 ^ 32) (sym c.reloaded-entries.ensures) c.requires) (omega arith)
-
-pub usage_with-usage-requires-clause-map : goal.usage_with-usage-requires-clause-map
-usage_with-usage-requires-clause-map c =
-    let kept = c.self.invariant in
-    let within = kept.within.map in
-    let used = kept.map in
-    text_bytes-fits c.self.inside.limits.file c.self.inside.tally.usage.map c.reloaded-entries.result.now
-    (sym c.too_large.ensures ∙ c.in_default-too_large.is) kept.within.file
-    (subst (λ (es : List (Bytes × Bytes)). length es < 2 ^ 32) (sym c.reloaded-entries.ensures) c.requires) (omega arith)
+    let within = kept.within in
+    let entries = c.reloaded-entries.result.now in
+    let fitting = sym c.too_large.ensures ∙ c.in_default-too_large.is in
+    let few : length entries < 2 ^ 32 = subst (λ (es : List (Bytes × Bytes)). length es < 2 ^ 32) (sym c.reloaded-entries.ensures) c.requires in
+    record {
+      text = text_bytes-fits c.self.inside.limits.file c.self.inside.tally.usage.text entries fitting within.file few (omega (arith, within.text, kept.text));
+      names = omega (arith, within.names, kept.names, few);
+      map = text_bytes-fits c.self.inside.limits.file c.self.inside.tally.usage.map entries fitting within.file few (omega (arith, within.map, kept.map));
+    }
