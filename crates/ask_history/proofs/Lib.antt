@@ -1,4 +1,11 @@
+pub mod Accepted
 pub mod Loads
 pub mod Orders
 pub mod Pushes
 pub mod Walks
+pub mod Nestings
+pub mod Idles
+pub mod Underway
+pub mod Shutdowns
+pub mod Plays
+pub mod Plainly

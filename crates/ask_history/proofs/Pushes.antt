@@ -107,7 +107,7 @@ is_some-call_of journal legal = legal-induction Numbered numbered-more none jour
     none : (t : ℕ) → false ≡ nat_lt t 0
     none t = grind (arith, nat_tests)
 
--- the call of a ticket in two journals, one behind the other
+-- the call of a ticket in two journals, one after the other
 pub call_of-append : (front rest : List Event) (t : ℕ) → call_of (front ++ rest) t ≡ first_of_two (call_of front t) (call_of rest t)
 call_of-append [] rest t = refl
 call_of-append (first ∷ front) rest t =

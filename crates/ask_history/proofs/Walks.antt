@@ -1,4 +1,4 @@
--- What a walk along two journals, one behind the other, comes to.
+-- What a walk along two journals, one after the other, comes to.
 use Rattle.std.proofs.Common.{◌≡◌, List, [], ◌∷◌, ◌++◌, Bool, true, false, ◌&&◌, IsTrue, refl, sym, ◌∙◌, subst, append_assoc, append-nil}
 use Rattle.ask_history.specs.declared.events.Event.{Event}
 use Rattle.ask_history.specs.Walk.{walk, along}

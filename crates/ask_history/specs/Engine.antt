@@ -1,5 +1,6 @@
 -- What the calls of an engine do.
 use Rattle.std.specs.Prelude.{◌≡◌, ◌≢◌, ◌<◌, ◌≤◌, ⊤, ℕ, Bool, true, false, not, ◌||◌, ◌==◌, if◌then◌else◌, List, [], ◌∷◌, ◌++◌, length, filter, All, Option, Some, None}
+use Rattle.pc_terms.specs.Bytes.{max_source_bytes}
 use Rattle.ask_history.specs.Sources.{Bytes, Sources, is_mutation, mutated}
 use Rattle.ask_history.specs.declared.calls.Call.{Call}
 use Rattle.ask_history.specs.declared.calls.Call.TheVariants.{Reload, Remove, TypeAt, MembersAt, ScopeAt, LinkAt, Structure, LoadedTyped}
@@ -25,25 +26,14 @@ pub record EngineState : Type 0 where
 
 -- the texts of a call are no longer than a file may be
 abbrev pub HasFileSizes : Call → Type 0
-HasFileSizes (Reload entries) = All (λ entry. length entry.1 ≤ 262144) entries
-HasFileSizes (Remove names) = ⊤
-HasFileSizes (TypeAt file offset) = ⊤
-HasFileSizes (MembersAt file offset) = ⊤
-HasFileSizes (ScopeAt file offset) = ⊤
-HasFileSizes (LinkAt file offset) = ⊤
-HasFileSizes (Structure file) = ⊤
-HasFileSizes (LoadedTyped file) = ⊤
+HasFileSizes (Reload entries) = All (λ entry. length entry.1 ≤ max_source_bytes) entries
+HasFileSizes _ = ⊤
 
 -- the calls that engines serve so far: reloads, and the tree at an offset
 abbrev pub is_served : Call → Bool
 is_served (Reload entries) = true
-is_served (Remove names) = false
 is_served (TypeAt file offset) = true
-is_served (MembersAt file offset) = false
-is_served (ScopeAt file offset) = false
-is_served (LinkAt file offset) = false
-is_served (Structure file) = false
-is_served (LoadedTyped file) = false
+is_served _ = false
 
 abbrev pub is_open_in : List (ℕ × Call) → ℕ → Bool
 is_open_in [] ticket = false
@@ -55,7 +45,7 @@ is_staged (Some mutation) ticket = mutation.0 == ticket
 
 -- ---- what each call does
 
--- An ask goes on top of the open ones, a mutation is staged; for want of memory nothing changes.
+-- An ask goes on top of the open ones, a mutation is staged; out of memory nothing changes.
 abbrev pub FeedGives : EngineState → ℕ → Call → Fed → EngineState → Type 0
 FeedGives old ticket call fed.Taken new =
     (is_mutation call ≡ false) × (new ≡ record old { asks = old.asks ++ (ticket, call) ∷ [] })

@@ -1,7 +1,8 @@
 -- What a journal says: its calls, what became of each, the sources that stand after it, and the answer of a call
--- that settles behind it. A journal is the list of its events, and a place is a position in it from 0.
+-- that settles after it. A journal is the list of its events; an event's position in it, from 0, is its journal index.
 use Rattle.std.specs.Prelude.{ℕ, Bool, true, false, not, ◌&&◌, if◌then◌else◌, ◌==◌, List, [], ◌∷◌, ◌++◌, count_by, Option, Some, None, is_some, is_none, unwrap_or}
 use Rattle.std.specs.List.{list_any, list_all}
+use Rattle.std.specs.Option.{option_or}
 use Rattle.ask_history.specs.Sources.{Bytes, Sources, is_mutation, mutated}
 use Rattle.ask_history.specs.Walk.{along}
 use Rattle.ask_history.specs.declared.calls.Call.{Call}
@@ -16,39 +17,24 @@ use Rattle.ask_history.specs.declared.answers.Answer.TheVariants as answer
 
 abbrev pub is_accept : Event → Bool
 is_accept (Accept ticket client tag call) = true
-is_accept (Cancel ticket) = false
-is_accept Close = false
-is_accept (Settle ticket mark) = false
-is_accept (Checked file) = false
+is_accept _ = false
 
 abbrev pub is_close : Event → Bool
-is_close (Accept ticket client tag call) = false
-is_close (Cancel ticket) = false
 is_close Close = true
-is_close (Settle ticket mark) = false
-is_close (Checked file) = false
+is_close _ = false
 
 abbrev pub cancels : ℕ → Event → Bool
-cancels t (Accept ticket client tag call) = false
 cancels t (Cancel ticket) = ticket == t
-cancels t Close = false
-cancels t (Settle ticket mark) = false
-cancels t (Checked file) = false
+cancels _ _ = false
 
 abbrev pub settles : ℕ → Event → Bool
-settles t (Accept ticket client tag call) = false
-settles t (Cancel ticket) = false
-settles t Close = false
 settles t (Settle ticket mark) = ticket == t
-settles t (Checked file) = false
+settles _ _ = false
 
 -- the call that an event accepts under a ticket
 abbrev pub call_under : ℕ → Event → Option Call
 call_under t (Accept ticket client tag call) = if ticket == t then Some call else None
-call_under t (Cancel ticket) = None
-call_under t Close = None
-call_under t (Settle ticket mark) = None
-call_under t (Checked file) = None
+call_under _ _ = None
 
 -- ---- calls and what became of them
 
@@ -60,6 +46,16 @@ first_of_two None later = later
 abbrev pub call_of : List Event → ℕ → Option Call
 call_of [] t = None
 call_of (event ∷ journal) t = first_of_two (call_under t event) (call_of journal t)
+
+-- the ticket under which an event accepts the call of a client with a tag
+abbrev pub ticket_under : ℕ → ℕ → Event → Option ℕ
+ticket_under c k (Accept ticket client tag call) = if (client == c) && (tag == k) then Some ticket else None
+ticket_under _ _ _ = None
+
+-- The ticket of the call of a client with a tag, where it was accepted.
+abbrev pub ticket_of : List Event → ℕ → ℕ → Option ℕ
+ticket_of [] c k = None
+ticket_of (event ∷ journal) c k = option_or (ticket_under c k event) (ticket_of journal c k)
 
 -- How many calls were accepted; the next ticket.
 abbrev pub accepted : List Event → ℕ
@@ -82,24 +78,17 @@ is_open journal t = is_some (call_of journal t) && not (is_settled journal t)
 abbrev pub tickets : List Event → List ℕ
 tickets [] = []
 tickets (Accept ticket client tag call ∷ journal) = ticket ∷ tickets journal
-tickets (Cancel ticket ∷ journal) = tickets journal
-tickets (Close ∷ journal) = tickets journal
-tickets (Settle ticket mark ∷ journal) = tickets journal
-tickets (Checked file ∷ journal) = tickets journal
+tickets (_ ∷ journal) = tickets journal
 
 -- Every accepted call is settled.
 abbrev pub all_settled : List Event → Bool
 all_settled journal = list_all (is_settled journal) (tickets journal)
 
--- The tickets whose settling is marked for want of memory.
+-- The tickets whose settling is marked out of memory.
 abbrev pub out_of_memory : List Event → List ℕ
 out_of_memory [] = []
-out_of_memory (Accept ticket client tag call ∷ journal) = out_of_memory journal
-out_of_memory (Cancel ticket ∷ journal) = out_of_memory journal
-out_of_memory (Close ∷ journal) = out_of_memory journal
-out_of_memory (Settle ticket mark.Done ∷ journal) = out_of_memory journal
 out_of_memory (Settle ticket mark.NoMemory ∷ journal) = ticket ∷ out_of_memory journal
-out_of_memory (Checked file ∷ journal) = out_of_memory journal
+out_of_memory (_ ∷ journal) = out_of_memory journal
 
 -- ---- sources and answers
 
@@ -107,7 +96,7 @@ abbrev pub by_mark : Mark → Option Answer
 by_mark mark.Done = None
 by_mark mark.NoMemory = Some answer.NoMemory
 
--- What is answered in place of what was found, for a call that settles behind this journal: `Closed` where the
+-- What is answered in place of what was found, for a call that settles after this journal: `Closed` where the
 -- session is shut down, else `Cancelled` where the call is cancelled, else `NoMemory` where its mark says so.
 abbrev pub forestalled : List Event → ℕ → Mark → Option Answer
 forestalled journal t m = if is_closed journal then Some answer.Closed else (if is_cancelled journal t then Some answer.Cancelled else by_mark m)
@@ -116,7 +105,7 @@ abbrev pub mutation_only : Option Call → Option Call
 mutation_only None = None
 mutation_only (Some call) = if is_mutation call then Some call else None
 
--- The mutation that a settling behind this journal puts in force, if it does: one whose answer is Done.
+-- The mutation that a settling after this journal puts in force, if it does: one whose answer is Done.
 abbrev pub taking_effect : List Event → ℕ → Mark → Option Call
 taking_effect journal t m = if is_none (forestalled journal t m) then mutation_only (call_of journal t) else None
 
@@ -124,13 +113,10 @@ abbrev pub changed : Sources → Option Call → Sources
 changed files None = files
 changed files (Some call) = mutated files call
 
--- what an event does to the sources, behind the events before it
+-- what an event does to the sources, after the events before it
 abbrev pub sources_step : List Event → Sources → Event → Sources
-sources_step before files (Accept ticket client tag call) = files
-sources_step before files (Cancel ticket) = files
-sources_step before files Close = files
 sources_step before files (Settle ticket m) = changed files (taking_effect before ticket m)
-sources_step before files (Checked file) = files
+sources_step before files _ = files
 
 -- The sources after a journal: the mutations whose answer is Done, applied in the order of their settling.
 abbrev pub after : List Event → Sources
@@ -138,11 +124,9 @@ after journal = along sources_step [] journal
 
 -- what an event does to the files that are checked
 abbrev pub checked_step : List Event → List Bytes → Event → List Bytes
-checked_step before files (Accept ticket client tag call) = files
-checked_step before files (Cancel ticket) = files
-checked_step before files Close = files
 checked_step before files (Settle ticket m) = if is_some (taking_effect before ticket m) then [] else files
 checked_step before files (Checked file) = files ++ file ∷ []
+checked_step before files _ = files
 
 -- The files that were checked since a mutation last took effect.
 abbrev pub checked : List Event → List Bytes
@@ -152,17 +136,14 @@ abbrev pub found : (Sources → Call → Answer) → Sources → Option Call →
 found answer_of files None = answer.NoUnit
 found answer_of files (Some call) = if is_mutation call then answer.Done else answer_of files call
 
--- The answer of a call that settles behind this journal. `answer_of` says what an ask is answered over given sources.
+-- The answer of a call that settles after this journal. `answer_of` says what an ask is answered over given sources.
 abbrev pub reply : (Sources → Call → Answer) → List Event → ℕ → Mark → Answer
 reply answer_of journal t m = unwrap_or (forestalled journal t m) (found answer_of (after journal) (call_of journal t))
 
--- what an event gives a ticket, behind the events before it
+-- what an event gives a ticket, after the events before it
 abbrev pub reply_step : (Sources → Call → Answer) → ℕ → List Event → Option Answer → Event → Option Answer
-reply_step answer_of t before given (Accept ticket client tag call) = given
-reply_step answer_of t before given (Cancel ticket) = given
-reply_step answer_of t before given Close = given
 reply_step answer_of t before given (Settle ticket m) = if ticket == t then Some (reply answer_of before t m) else given
-reply_step answer_of t before given (Checked file) = given
+reply_step answer_of t before given _ = given
 
 -- The answer of a ticket in a journal, where it is settled there.
 abbrev pub reply_in : (Sources → Call → Answer) → List Event → ℕ → Option Answer

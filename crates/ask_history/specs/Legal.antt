@@ -11,16 +11,13 @@ use Rattle.ask_history.specs.declared.events.Event.TheVariants.{Accept, Cancel, 
 -- an accepted mutation with a ticket below this one that is not settled
 abbrev pub holds_back : List Event → ℕ → Event → Bool
 holds_back journal t (Accept ticket client tag call) = nat_lt ticket t && is_mutation call && not (is_settled journal ticket)
-holds_back journal t (Cancel ticket) = false
-holds_back journal t Close = false
-holds_back journal t (Settle ticket mark) = false
-holds_back journal t (Checked file) = false
+holds_back _ _ _ = false
 
 -- Every mutation with a ticket below this one is settled.
 abbrev pub is_next : List Event → ℕ → Bool
 is_next journal t = not (list_any (holds_back journal t) journal)
 
--- Whether an event may stand directly behind a journal.
+-- Whether an event may come directly after a journal.
 --   A call is accepted under the next ticket, and not after the shutdown.
 --   A cancel names an open ticket, once, and does not come after the shutdown.
 --   There is one shutdown at most.
@@ -33,6 +30,6 @@ may_follow journal Close = not (is_closed journal)
 may_follow journal (Settle ticket mark) = is_open journal ticket && is_next journal ticket
 may_follow journal (Checked file) = is_loaded (after journal) file && not (list_any (bytes_eq file) (checked journal)) && not (is_closed journal)
 
--- A journal is legal where each of its events may stand behind those before it.
+-- A journal is legal where each of its events may come after those before it.
 abbrev pub is_legal : List Event → Bool
 is_legal journal = along (λ before legal event. legal && may_follow before event) true journal

@@ -2,5 +2,10 @@ pub mod Sources
 pub mod Walk
 pub mod Journal
 pub mod Legal
+pub mod Indices
+pub mod Closing
+pub mod Checks
+pub mod Plain
+pub mod Nested
 pub mod Schedule
 pub mod Engine

@@ -1,12 +1,10 @@
 -- The sources that are loaded, and what a mutation does to them.
-use Rattle.std.specs.Prelude.{ℕ, Bool, true, false, not, if◌then◌else◌, List, [], ◌∷◌, filter, Option, Some, None}
+use Rattle.std.specs.Prelude.{Bool, true, false, not, if◌then◌else◌, List, [], ◌∷◌, filter, Option, Some, None}
 use Rattle.std.specs.List.{list_any}
 use Rattle.std.specs.Str.{bytes_eq}
+pub use Rattle.pc_terms.specs.Bytes.{Bytes}
 use Rattle.ask_history.specs.declared.calls.Call.{Call}
-use Rattle.ask_history.specs.declared.calls.Call.TheVariants.{Reload, Remove, TypeAt, MembersAt, ScopeAt, LinkAt, Structure, LoadedTyped}
-
-abbrev pub Bytes : Type 0
-Bytes = List ℕ
+use Rattle.ask_history.specs.declared.calls.Call.TheVariants.{Reload, Remove}
 
 -- The loaded files, each with its text, in the order in which they were first loaded. No two have one name.
 abbrev pub Sources : Type 0
@@ -39,20 +37,10 @@ removed files names = filter (λ file. not (list_any (bytes_eq file.0) names)) f
 abbrev pub is_mutation : Call → Bool
 is_mutation (Reload entries) = true
 is_mutation (Remove names) = true
-is_mutation (TypeAt file offset) = false
-is_mutation (MembersAt file offset) = false
-is_mutation (ScopeAt file offset) = false
-is_mutation (LinkAt file offset) = false
-is_mutation (Structure file) = false
-is_mutation (LoadedTyped file) = false
+is_mutation _ = false
 
 -- The sources after a mutation took effect. An ask leaves them.
 abbrev pub mutated : Sources → Call → Sources
 mutated files (Reload entries) = reloaded files entries
 mutated files (Remove names) = removed files names
-mutated files (TypeAt file offset) = files
-mutated files (MembersAt file offset) = files
-mutated files (ScopeAt file offset) = files
-mutated files (LinkAt file offset) = files
-mutated files (Structure file) = files
-mutated files (LoadedTyped file) = files
+mutated files _ = files

@@ -18,7 +18,7 @@ pub struct MemberInfo {
     pub owner: SymPath,
 }
 
-/// A name that is seen at a place, and what it is bound to.
+/// A name that is seen at an offset, and what it is bound to.
 #[derive(Debug, Drop)]
 pub struct ScopeInfo {
     pub name: Text,
@@ -49,7 +49,7 @@ pub enum Answer {
     Loaded(Row<TreeInfo>, Row<Problem>),
     /// The file is not loaded.
     NoUnit,
-    /// The offset lies behind the end of the text.
+    /// The offset is past the end of the text.
     NoTree,
     /// What stands there has no members.
     NoMembers,
@@ -61,6 +61,6 @@ pub enum Answer {
     Cancelled,
     /// The shutdown stands before its settling.
     Closed,
-    /// Memory could not be had for it.
+    /// Out of memory.
     NoMemory,
 }

@@ -35,7 +35,7 @@ pub enum Event {
     },
 }
 
-/// The events of a session in order. A place is a position in it, from 0.
+/// The events of a session in order. An event's position in it, from 0, is its journal index.
 #[derive(Debug, Drop)]
 pub struct Journal {
     pub events: Row<Event>,

@@ -2,6 +2,7 @@
 use Rattle.std.proofs.Common.{◌≡◌, ℕ, zero, suc, ◌+◌, ◌<◌, ◌≤◌, Bool, true, false, ◌&&◌, cond, List, [], ◌∷◌, ◌++◌, length, get_or, drop, drop-cons, add-one, take, take_all, length-take-le, Option, Some, None, IfSome, IfErr, MatchOption, MatchResult, Result, Ok, Err, ◌⊎◌, inl, inr, nat_lt, refl, sym, ap, ◌∙◌, subst, arith}
 use Rattle.std.specs.Option.{option_map}
 use Rattle.std.proofs.lemmas.Bool.Decides.{nat_tests}
+use Rattle.script_text.proofs.WordLemmas.{left_of_both, right_of_both}
 use Rattle.pc_outside.specs.Outside.{IsBeginning}
 use Rattle.pc_terms.specs.Ascii.{is_ascii, all_ascii}
 use Rattle.indexmap.specs.IndexMap.{IndexMap, get}
@@ -13,7 +14,8 @@ use Rattle.presentation_cli.specs.Input.{ascii_len, most_of, accepted_content, T
 use Rattle.presentation_cli.specs.Faults.{IsNoFault, NamesSuch, IsPathOf, IsPathIn, IsPathTold, IsReadBy}
 use Rattle.presentation_cli.specs.Playing.{CanPlay, CanPlayAll}
 use Rattle.ask_history.specs.declared.calls.Call.{Call}
-use Rattle.presentation_cli.specs.declared.script.Order.{Order}
+use Rattle.ask_history.specs.declared.script.Line.{Line}
+use Rattle.std.specs.List.{list_all}
 use Rattle.presentation_cli.specs.declared.ending.Limit.{Limit}
 use Rattle.presentation_cli.specs.declared.ending.Ending.{Ending}
 use Rattle.presentation_cli.specs.declared.ending.Ending.TheVariants as ending
@@ -74,7 +76,7 @@ fault_named last name (inr some) = rw some refl
 
 pub ruleset reading_rules = (read_found, fault_named)
 
--- ---- one step behind another
+-- ---- one step after another
 
 pub found_nothing : {A : Type 0} (told : Told A) (r : Result A Ending) → FoundOrTold told r → FoundOrTold None r
 found_nothing None r h = h
@@ -96,7 +98,7 @@ found_err more told (ending.BadScript name line) h = stays_err more told (ending
 found_err more told (ending.Limit limit value) h = stays_err more told (ending.Limit limit value) h
 found_err more told (ending.NotUtf8 name byte) h = stays_err more told (ending.NotUtf8 name byte) h
 
--- what the second step finds behind the first is what both do
+-- what the second step finds after the first is what both do
 pub found_then : {A B : Type 0} (more : A → Told B) (told : Told A) (a : A) (r : Result B Ending) → FoundOrTold told (Ok a) → FoundOrTold (more a) r → FoundOrTold (then_told more told) r
 found_then more None a r first second = found_nothing (more a) r second
 found_then more (Some told) a r first second = rw first second
@@ -127,34 +129,34 @@ pub can_play-push : (calls : List Call) (call : Call) → CanPlayAll calls → C
 can_play-push [] call all own = (own, tt)
 can_play-push (first ∷ calls) call all own = (all.0, can_play-push calls call all.1 own)
 
--- What is found of the orders that are left, behind the calls so far, is found of all.
-abbrev pub LeadsTo : (Bytes → Option Bytes) → List Call → List Order → List Order → Type 0
-LeadsTo content calls left orders =
-    (r : Result (List Call) Ending) → FoundOrTold (calls_from content calls left) r → FoundOrTold (calls_from content [] orders) r
+-- What is found of the lines that are left, after the calls so far, is found of all.
+abbrev pub LeadsTo : (Bytes → Option Bytes) → List Call → List Line → List Line → Type 0
+LeadsTo content calls left lines =
+    (r : Result (List Call) Ending) → FoundOrTold (calls_from content calls left) r → FoundOrTold (calls_from content [] lines) r
 
-pub leads_on : (content : Bytes → Option Bytes) (calls : List Call) (order : Order) (left orders : List Order) (call : Call)
-    → LeadsTo content calls (order ∷ left) orders → FoundOrTold (call_told content order) (Ok call) → LeadsTo content (calls ++ call ∷ []) left orders
-leads_on content calls order left orders call leads own r found = leads r (found_then (λ made. calls_from content (calls ++ made ∷ []) left) (call_told content order) call r own found)
+pub leads_on : (content : Bytes → Option Bytes) (calls : List Call) (line : Line) (left lines : List Line) (call : Call)
+    → LeadsTo content calls (line ∷ left) lines → FoundOrTold (call_told content line.order) (Ok call) → LeadsTo content (calls ++ call ∷ []) left lines
+leads_on content calls line left lines call leads own r found = leads r (found_then (λ made. calls_from content (calls ++ made ∷ []) left) (call_told content line.order) call r own found)
 
-pub leads_out : (content : Bytes → Option Bytes) (calls : List Call) (order : Order) (left orders : List Order) (e : Ending)
-    → LeadsTo content calls (order ∷ left) orders → FoundOrTold {A = Call} (call_told content order) (Err e) → FoundOrTold {A = List Call} (calls_from content [] orders) (Err e)
-leads_out content calls order left orders e leads own = leads (Err e) (found_err (λ made. calls_from content (calls ++ made ∷ []) left) (call_told content order) e own)
+pub leads_out : (content : Bytes → Option Bytes) (calls : List Call) (line : Line) (left lines : List Line) (e : Ending)
+    → LeadsTo content calls (line ∷ left) lines → FoundOrTold {A = Call} (call_told content line.order) (Err e) → FoundOrTold {A = List Call} (calls_from content [] lines) (Err e)
+leads_out content calls line left lines e leads own = leads (Err e) (found_err (λ made. calls_from content (calls ++ made ∷ []) left) (call_told content line.order) e own)
 
 pub same_content : (a b : Bytes → Option Bytes) → ((other : Bytes) → a other ≡ b other) → a ≡ b
 same_content a b same = λ i other. same other i
 
-pub next_order : (orders : List Order) (i : ℕ) (order : Order) → i < length orders → order ≡ get_or orders i order → drop i orders ≡ order ∷ drop (i + 1) orders
-next_order orders i order within here = rw (add-one, drop-cons orders i order within, ← here) refl
+pub next_line : (lines : List Line) (i : ℕ) (line : Line) → i < length lines → line ≡ get_or lines i line → drop i lines ≡ line ∷ drop (i + 1) lines
+next_line lines i line within here = rw (add-one, drop-cons lines i line within, ← here) refl
 
--- the calls of the orders that were found are those of the schedule
-pub found_calls : {D : Type 0} (items : D → List Call) (content later : Bytes → Option Bytes) (told : Told (List Order)) (orders : List Order) (r : Result D Ending)
-    → later ≡ content → FoundOrTold told (Ok orders)
-    → MatchResult r (λ d. FoundOrTold (calls_from later [] orders) (Ok (items d))) (λ e. FoundOrTold (calls_from later [] orders) (Err e))
+-- the calls of the lines that were found are those of the schedule
+pub found_calls : {D : Type 0} (items : D → List Call) (content later : Bytes → Option Bytes) (told : Told (List Line)) (lines : List Line) (r : Result D Ending)
+    → later ≡ content → FoundOrTold told (Ok lines)
+    → MatchResult r (λ d. FoundOrTold (calls_from later [] lines) (Ok (items d))) (λ e. FoundOrTold (calls_from later [] lines) (Err e))
     → MatchResult r (λ d. FoundOrTold (then_told (calls_from content []) told) (Ok (items d))) (λ e. FoundOrTold (then_told (calls_from content []) told) (Err e))
-found_calls items content later told orders (Ok d) same first found =
-    found_then (calls_from content []) told orders (Ok (items d)) first (subst (λ (k : Bytes → Option Bytes). FoundOrTold (calls_from k [] orders) (Ok (items d))) same found)
-found_calls items content later told orders (Err e) same first found =
-    found_then (calls_from content []) told orders (Err e) first (subst (λ (k : Bytes → Option Bytes). FoundOrTold (calls_from k [] orders) (Err e)) same found)
+found_calls items content later told lines (Ok d) same first found =
+    found_then (calls_from content []) told lines (Ok (items d)) first (subst (λ (k : Bytes → Option Bytes). FoundOrTold (calls_from k [] lines) (Ok (items d))) same found)
+found_calls items content later told lines (Err e) same first found =
+    found_then (calls_from content []) told lines (Err e) first (subst (λ (k : Bytes → Option Bytes). FoundOrTold (calls_from k [] lines) (Err e)) same found)
 
 -- ---- which file a fault of reading names
 
@@ -179,20 +181,28 @@ names_more Such More ending.NoMemory more h = tt
 names_more Such More (ending.Limit limit value) more h = tt
 names_more Such More (ending.NotUtf8 name byte) more h = tt
 
-pub path_in : (orders : List Order) (i : ℕ) (order : Order) (file : Bytes) → i < length orders → order ≡ get_or orders i order → IsPathOf order file → IsPathIn orders file
-path_in [] i order file within here own = absurd (omega arith)
-path_in (first ∷ orders) zero order file within here own = inl (subst (λ (o : Order). IsPathOf o file) here own)
-path_in (first ∷ orders) (suc i) order file within here own = inr (path_in orders i order file (omega arith) here own)
+pub path_in : (lines : List Line) (i : ℕ) (line : Line) (file : Bytes) → i < length lines → line ≡ get_or lines i line → IsPathOf line.order file → IsPathIn lines file
+path_in [] i line file within here own = absurd (omega arith)
+path_in (first ∷ lines) zero line file within here own = inl (subst (λ (l : Line). IsPathOf l.order file) here own)
+path_in (first ∷ lines) (suc i) line file within here own = inr (path_in lines i line file (omega arith) here own)
 
--- a path of the orders that were found is one of those that are told
-pub path_told : (told : Told (List Order)) (orders : List Order) (file : Bytes) → FoundOrTold told (Ok orders) → IsPathIn orders file → IsPathTold told file
-path_told None orders file found own = tt
-path_told (Some t) orders file found own = rw found own
+-- a path of the lines that were found is one of those that are told
+pub path_told : (told : Told (List Line)) (lines : List Line) (file : Bytes) → FoundOrTold told (Ok lines) → IsPathIn lines file → IsPathTold told file
+path_told None lines file found own = tt
+path_told (Some t) lines file found own = rw found own
 
-pub named_calls : {D : Type 0} (schedule : Bytes) (told : Told (List Order)) (orders : List Order) (r : Result D Ending) → FoundOrTold told (Ok orders)
-    → IfErr r (NamesSuch (IsPathIn orders)) → IfErr r (NamesSuch (IsReadBy schedule told))
-named_calls schedule told orders (Ok d) found named = tt
-named_calls schedule told orders (Err e) found named = names_more (IsPathIn orders) (IsReadBy schedule told) e (λ file own. inr (path_told told orders file found own)) named
+pub named_calls : {D : Type 0} (schedule : Bytes) (told : Told (List Line)) (lines : List Line) (r : Result D Ending) → FoundOrTold told (Ok lines)
+    → IfErr r (NamesSuch (IsPathIn lines)) → IfErr r (NamesSuch (IsReadBy schedule told))
+named_calls schedule told lines (Ok d) found named = tt
+named_calls schedule told lines (Err e) found named = names_more (IsPathIn lines) (IsReadBy schedule told) e (λ file own. inr (path_told told lines file found own)) named
 
-pub named_schedule : (schedule : Bytes) (told : Told (List Order)) (e : Ending) → NamesSuch (λ file. file ≡ schedule) e → NamesSuch (IsReadBy schedule told) e
+pub named_schedule : (schedule : Bytes) (told : Told (List Line)) (e : Ending) → NamesSuch (λ file. file ≡ schedule) e → NamesSuch (IsReadBy schedule told) e
 named_schedule schedule told e named = names_more (λ file. file ≡ schedule) (IsReadBy schedule told) e (λ file own. inl own) named
+
+-- ---- lines that are played
+
+-- each line of a list that passes a test passes it
+pub passes_at : (test : Line → Bool) (lines : List Line) (i : ℕ) (line : Line) → i < length lines → line ≡ get_or lines i line → list_all test lines ≡ true → test line ≡ true
+passes_at test [] i line within here all = absurd (omega arith)
+passes_at test (first ∷ lines) zero line within here all = ap test here ∙ left_of_both _ _ all
+passes_at test (first ∷ lines) (suc i) line within here all = passes_at test lines i line (omega arith) here (right_of_both _ _ all)

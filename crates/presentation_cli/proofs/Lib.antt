@@ -1,6 +1,7 @@
 pub mod InputLemmas
+pub mod PlayedLemmas
 pub mod PlayingLemmas
 pub mod RunLemmas
-pub mod ScriptLemmas
 pub mod ServingLemmas
+pub mod ShownLemmas
 pub mod Sessions

@@ -1,9 +1,8 @@
 -- A session stays in step with its engine.
-use Rattle.std.proofs.Common.{◌≡◌, ◌+◌, ◌≤◌, Bool, true, false, cond, All, List, [], ◌∷◌, ◌++◌, length, length-append, refl, sym, ap, ◌∙◌, arith}
-use Rattle.std.specs.Str.{bytes_eq}
+use Rattle.std.proofs.Common.{◌≡◌, ◌+◌, ◌≤◌, true, false, cond, All, List, [], ◌∷◌, ◌++◌, length, length-append, refl, sym, ap, ◌∙◌, arith}
 use Rattle.std.specs.List.{AllByRecursion}
 use Rattle.std.proofs.lemmas.List.Elements.{All-from_recursion}
-use Rattle.ask_history.specs.Sources.{Bytes, Sources, is_mutation, mutated, put_file}
+use Rattle.ask_history.specs.Sources.{Bytes, Sources, is_mutation, mutated}
 use Rattle.ask_history.specs.Engine.{EngineState, HasFileSizes, is_served, fresh_state}
 use Rattle.ask_history.specs.Journal.{accepted, after}
 use Rattle.ask_history.specs.declared.calls.Call.{Call}

@@ -3,7 +3,7 @@ use Rattle.std.proofs.Common.{◌≡◌, ℕ, List, [], ◌++◌, length, ◌≤
 use Rattle.std.proofs.lemmas.Bool.{false≢true}
 use Rattle.ask_history.specs.Sources.{Sources}
 use Rattle.ask_history.specs.Journal.{out_of_memory, replies}
-use Rattle.ask_history.specs.Schedule.{journal_of}
+use Rattle.ask_history.specs.Plain.{plain_journal}
 use Rattle.ask_history.specs.declared.calls.Call.{Call}
 use Rattle.ask_history.specs.declared.events.Event.{Event}
 use Rattle.ask_history.specs.declared.answers.Answer.{Answer}
@@ -12,24 +12,18 @@ use Rattle.presentation_cli.specs.Words.{Bytes, mode_of}
 use Rattle.presentation_cli.specs.Telling.{IsOrNoMemory}
 use Rattle.presentation_cli.specs.declared.modes.Mode.{Mode}
 use Rattle.presentation_cli.specs.declared.modes.Mode.TheVariants.{Alone, Threads, Bad}
-use Rattle.presentation_cli.specs.Run.{IsOutcome, IsOutcomeOf, Follows, Ran, RanIn, schedule_of, Wrote, WritesCount, GrewBy, transcript, Seen, Completes}
+use Rattle.presentation_cli.specs.Run.{IsOutcome, IsOutcomeOf, Follows, Ran, RanIn, schedule_of, Wrote, WritesCount, GrewBy, played_text, transcript, Seen, Completes}
 use Rattle.presentation_cli.specs.Input.{Told, FoundOrTold, calls_told}
 use Rattle.pc_outside.specs.Outside.{Rose}
 use Rattle.presentation_cli.specs.Faults.{HasFault, NamesSuch}
-use Rattle.presentation_cli.specs.Printed.{session_text}
 use Rattle.presentation_cli.specs.declared.ending.Ending.{Ending}
 use Rattle.presentation_cli.specs.declared.ending.Ending.TheVariants as ending
 
 -- a session that was written ends as the journal of its calls
-pub outcome_of : (calls : List Call) (ended : Ending) (journal : List Event) → IsOutcome ended → journal ≡ journal_of (out_of_memory journal) calls → IsOutcomeOf calls ended journal
-outcome_of calls ending.Done journal outcome whole = whole
-outcome_of calls ending.WriteFault journal outcome whole = whole
-outcome_of calls ending.NoMemory journal outcome whole = tt
-outcome_of calls ending.Usage journal outcome whole = outcome
-outcome_of calls (ending.ReadFault name) journal outcome whole = outcome
-outcome_of calls (ending.BadScript name line) journal outcome whole = outcome
-outcome_of calls (ending.Limit limit value) journal outcome whole = outcome
-outcome_of calls (ending.NotUtf8 name byte) journal outcome whole = outcome
+pub outcome_of : (calls : List Call) (ended : Ending) (journal : List Event) → IsOutcome ended → journal ≡ plain_journal (out_of_memory journal) calls → IsOutcomeOf calls ended journal
+outcome_of calls ended journal (inl done) whole = subst (λ e. IsOutcomeOf calls e journal) (sym done) whole
+outcome_of calls ended journal (inr (inl fault)) whole = subst (λ e. IsOutcomeOf calls e journal) (sym fault) whole
+outcome_of calls ended journal (inr (inr none)) whole = subst (λ e. IsOutcomeOf calls e journal) (sym none) tt
 
 -- nothing more is a prefix
 pub grew_by_nothing : (more : Bytes) (before : Option Bytes) → GrewBy more before before
@@ -38,8 +32,8 @@ grew_by_nothing more (Some bytes) = (0, ap Some (sym (append-nil bytes)))
 
 -- the answers of the calls are what is printed
 pub wrote_transcript : (answer_of : Sources → Call → Answer) (journal : List Event) (answers : List Answer) (ended : Ending) (before now : Option Bytes)
-    → answers ≡ replies answer_of journal → Wrote (session_text journal answers []) ended before now → Wrote (transcript answer_of journal) ended before now
-wrote_transcript answer_of journal answers ended before now same wrote = subst (λ (given : List Answer). Wrote (session_text journal given []) ended before now) same wrote
+    → answers ≡ replies answer_of journal → Wrote (played_text journal answers) ended before now → Wrote (transcript answer_of journal) ended before now
+wrote_transcript answer_of journal answers ended before now same wrote = subst (λ (given : List Answer). Wrote (played_text journal given) ended before now) same wrote
 
 pub ruleset session_rules = (outcome_of, grew_by_nothing, wrote_transcript)
 
@@ -95,13 +89,13 @@ no_read_fault calls (ending.BadScript name line) journal before now last whole r
 no_read_fault calls (ending.Limit limit value) journal before now last whole risen = risen
 no_read_fault calls (ending.NotUtf8 name byte) journal before now last whole risen = risen
 
--- ---- the line for the user may end a run for want of memory
+-- ---- the line for the user may end a run out of memory
 
 to_memory : (P : Ending → Type 0) (ended telling : Ending) → (telling ≡ ended) ⊎ (telling ≡ ending.NoMemory) → P ended → P ending.NoMemory → P telling
 to_memory P ended telling (inl same) own memory = subst P (sym same) own
 to_memory P ended telling (inr none) own memory = subst P (sym none) memory
 
--- what holds of an ending, and of want of memory too, holds of what is told
+-- what holds of an ending, and of running out of memory too, holds of what is told
 still : (P : Ending → Type 0) (ended telling : Ending) → IsOrNoMemory ended telling → P ended → P ending.NoMemory → P telling
 still P ending.Done telling same own memory = subst P (sym same) own
 still P ending.WriteFault telling same own memory = subst P (sym same) own

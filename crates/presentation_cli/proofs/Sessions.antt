@@ -4,7 +4,7 @@ use Rattle.std.proofs.Math.Bool.{or-false}
 use Rattle.std.specs.List.{list_any, list_all}
 use Rattle.std.proofs.lemmas.List.Folds.{list_any-append, list_all-append}
 use Rattle.std.proofs.lemmas.Bool.{and_parts, true≢false}
-use Rattle.ask_history.specs.Schedule.{mark_of, play, journal_of}
+use Rattle.ask_history.specs.Plain.{mark_of, play, plain_journal}
 use Rattle.std.proofs.lemmas.Bool.Decides.{nat_tests}
 use Rattle.ask_history.specs.Sources.{Sources, is_mutation, mutated}
 use Rattle.ask_history.specs.Journal.{accepted, call_of, is_closed, is_close, is_cancelled, cancels, is_settled, settles, tickets, all_settled, forestalled, by_mark, taking_effect, changed, sources_step, after, reply, reply_step, reply_in, onto, replies_to, replies, out_of_memory}
@@ -69,7 +69,7 @@ out_of_memory-append (Settle ticket mark.Done ∷ front) rest = out_of_memory-ap
 out_of_memory-append (Settle ticket mark.NoMemory ∷ front) rest = ap (λ ts. ticket ∷ ts) (out_of_memory-append front rest)
 out_of_memory-append (Checked file ∷ front) rest = out_of_memory-append front rest
 
--- only what is settled is marked for want of memory
+-- only what is settled is marked out of memory
 unmarked : (journal : List Event) (t : ℕ) → is_settled journal t ≡ false → list_any (λ k. k == t) (out_of_memory journal) ≡ false
 unmarked [] t h = refl
 unmarked (Accept ticket client tag call ∷ journal) t h = unmarked journal t h
@@ -292,7 +292,7 @@ module _ (journal : List Event) (tag : ℕ) (call : Call) (played : IsPlayed jou
 
 -- The journal so far, and the calls that are left, make the journal of all calls.
 abbrev pub MakesAll : List Event → List Call → List Call → Type 0
-MakesAll journal left calls = (without : List ℕ) → Agrees without journal → play without journal (accepted journal + 1) left ≡ journal_of without calls
+MakesAll journal left calls = (without : List ℕ) → Agrees without journal → play without journal (accepted journal + 1) left ≡ plain_journal without calls
 
 pub makes_all-start : (calls : List Call) → MakesAll [] calls calls
 makes_all-start calls without agrees = refl
@@ -303,7 +303,7 @@ makes_all-both journal call left calls m played makes without agrees =
     rw (accepted-both journal (accepted journal + 1) call played m)
     (play-both journal (accepted journal + 1) call played without m left agrees ∙ makes without (agrees-back journal (accepted journal + 1) call played without m agrees))
 
-pub makes_all-end : (journal : List Event) (calls : List Call) → MakesAll journal [] calls → journal ≡ journal_of (out_of_memory journal) calls
+pub makes_all-end : (journal : List Event) (calls : List Call) → MakesAll journal [] calls → journal ≡ plain_journal (out_of_memory journal) calls
 makes_all-end journal calls makes = makes (out_of_memory journal) (λ t below. refl)
 
 pub played-start : IsPlayed []

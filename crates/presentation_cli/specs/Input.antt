@@ -3,23 +3,27 @@ use Rattle.std.specs.Prelude.{◌≡◌, ℕ, ◌+◌, if◌then◌else◌, nat_
 use Rattle.std.specs.Option.{option_map}
 use Rattle.std.specs.List.{prefix_len}
 use Rattle.pc_terms.specs.Ascii.{is_ascii, all_ascii}
+use Rattle.pc_terms.specs.Bytes.{Bytes, max_source_bytes}
 use Rattle.ask_history.specs.declared.calls.Call.{Call}
 use Rattle.ask_history.specs.declared.calls.Call.TheVariants as call
-use Rattle.presentation_cli.specs.Words.{Bytes}
-use Rattle.presentation_cli.specs.Script.{orders_of}
-use Rattle.presentation_cli.specs.declared.script.Order.{Order}
-use Rattle.presentation_cli.specs.declared.script.Order.TheVariants.{Reload, TypeAt}
+use Rattle.ask_history.specs.declared.script.Order.{Order}
+use Rattle.ask_history.specs.declared.script.Order.TheVariants as order
+use Rattle.ask_history.specs.declared.script.Line.{Line}
+use Rattle.presentation_cli.specs.Played.{lines_played}
 use Rattle.presentation_cli.specs.declared.ending.Limit.{Limit}
 use Rattle.presentation_cli.specs.declared.ending.Limit.TheVariants.{ScriptBytes, FileBytes}
 use Rattle.presentation_cli.specs.declared.ending.Ending.{Ending}
 use Rattle.presentation_cli.specs.declared.ending.Ending.TheVariants as ending
 
+abbrev pub max_script_bytes : ℕ
+max_script_bytes = 4194304
+
 -- how many bytes a script and a source may have
 abbrev pub most_of : Limit → ℕ
-most_of ScriptBytes = 4194304
-most_of FileBytes = 262144
+most_of ScriptBytes = max_script_bytes
+most_of FileBytes = max_source_bytes
 
--- how many bytes stand before the first that is not ASCII
+-- how many bytes come before the first that is not ASCII
 abbrev pub ascii_len : Bytes → ℕ
 ascii_len bytes = prefix_len is_ascii bytes
 
@@ -42,40 +46,40 @@ then_told more (Some (Err e)) = Some (Err e)
 abbrev pub content_told : (Bytes → Option Bytes) → Bytes → Limit → Told Bytes
 content_told content name limit = option_map (accepted_content name limit) (content name)
 
-abbrev pub or_bad_script : Bytes → Result (List Order) ℕ → Result (List Order) Ending
-or_bad_script schedule (Ok orders) = Ok orders
+abbrev pub or_bad_script : Bytes → Result (List Line) ℕ → Result (List Line) Ending
+or_bad_script schedule (Ok lines) = Ok lines
 or_bad_script schedule (Err line) = Err (ending.BadScript schedule line)
 
-abbrev pub orders_told : (Bytes → Option Bytes) → Bytes → Told (List Order)
-orders_told content schedule =
-    then_told (λ text. Some (or_bad_script schedule (orders_of text))) (content_told content schedule ScriptBytes)
+-- The lines of a schedule, with paths in the place of texts.
+abbrev pub lines_told : (Bytes → Option Bytes) → Bytes → Told (List Line)
+lines_told content schedule =
+    then_told (λ text. Some (or_bad_script schedule (lines_played text))) (content_told content schedule ScriptBytes)
 
 abbrev pub reload_call : Bytes → Bytes → Call
 reload_call name text = call.Reload ((name, text) ∷ [])
 
--- the call of an order, with the text in the place of its path
+-- the call of a line that is played, with the text for its path
 abbrev pub call_told : (Bytes → Option Bytes) → Order → Told Call
-call_told content (TypeAt name offset) = Some (Ok (call.TypeAt name offset))
-call_told content (Reload name path) = then_told (λ text. Some (Ok (reload_call name text))) (content_told content path FileBytes)
+call_told content (order.Call (call.TypeAt name offset)) = Some (Ok (call.TypeAt name offset))
+call_told content (order.Call (call.Reload (entry ∷ []))) = then_told (λ text. Some (Ok (reload_call entry.0 text))) (content_told content entry.1 FileBytes)
+call_told content _ = None
 
--- the calls of the orders, behind those so far
-abbrev pub calls_from : (Bytes → Option Bytes) → List Call → List Order → Told (List Call)
+-- the calls of the lines, after those so far
+abbrev pub calls_from : (Bytes → Option Bytes) → List Call → List Line → Told (List Call)
 calls_from content calls [] = Some (Ok calls)
-calls_from content calls (order ∷ orders) = then_told (λ made. calls_from content (calls ++ made ∷ []) orders) (call_told content order)
+calls_from content calls (line ∷ lines) = then_told (λ made. calls_from content (calls ++ made ∷ []) lines) (call_told content line.order)
 
 -- The calls of a schedule, or why it is refused: of the reasons that stand together, the first that reading it and then
 -- its sources comes to.
 abbrev pub calls_told : (Bytes → Option Bytes) → Bytes → Told (List Call)
-calls_told content schedule = then_told (calls_from content []) (orders_told content schedule)
+calls_told content schedule = then_told (calls_from content []) (lines_told content schedule)
 
--- What was found is what is told. A fault of reading and want of memory may come in its place.
+-- What was found is what is told. A fault of reading, or the end of memory, may come instead.
 abbrev pub FoundOrTold : {A : Type 0} → Told A → Result A Ending → Type 0
 FoundOrTold told (Ok a) = MatchOption told (Unit {0}) (λ t. t ≡ Ok a)
-FoundOrTold told (Err (ending.ReadFault name)) = Unit {0}
-FoundOrTold told (Err ending.NoMemory) = Unit {0}
 FoundOrTold told (Err ending.Done) = ⊥
 FoundOrTold told (Err ending.Usage) = ⊥
+FoundOrTold told (Err (ending.ReadFault name)) = Unit {0}
 FoundOrTold told (Err ending.WriteFault) = ⊥
-FoundOrTold told (Err (ending.BadScript name line)) = MatchOption told (Unit {0}) (λ t. t ≡ Err (ending.BadScript name line))
-FoundOrTold told (Err (ending.Limit limit value)) = MatchOption told (Unit {0}) (λ t. t ≡ Err (ending.Limit limit value))
-FoundOrTold told (Err (ending.NotUtf8 name byte)) = MatchOption told (Unit {0}) (λ t. t ≡ Err (ending.NotUtf8 name byte))
+FoundOrTold told (Err ending.NoMemory) = Unit {0}
+FoundOrTold told (Err e) = MatchOption told (Unit {0}) (λ t. t ≡ Err e)

@@ -1,13 +1,11 @@
 pub mod Faults
 pub mod Input
 pub mod Owed
+pub mod Played
 pub mod Playing
-pub mod Printed
-pub mod PrintedNames
 pub mod Run
-pub mod Script
-pub mod ScriptReading
 pub mod Serving
+pub mod Shown
 pub mod Sourced
 pub mod Telling
 pub mod Words

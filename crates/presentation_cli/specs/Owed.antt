@@ -7,7 +7,7 @@ use Rattle.ask_history.specs.Legal.{is_legal}
 use Rattle.ask_history.specs.declared.calls.Call.{Call}
 use Rattle.ask_history.specs.declared.answers.Answer.{Answer}
 use Rattle.presentation_cli.specs.Words.{Bytes, mode_of}
-use Rattle.presentation_cli.specs.Input.{calls_told, orders_told}
+use Rattle.presentation_cli.specs.Input.{calls_told, lines_told}
 use Rattle.presentation_cli.specs.Faults.{HasFault, NamesSuch, IsReadBy}
 use Rattle.presentation_cli.specs.Run.{status_of, line_text, transcript, schedule_of, Wrote, WritesCount, Ran, Seen, Completes}
 use Rattle.presentation_cli.specs.declared.report.Report.{Report}
@@ -25,7 +25,7 @@ pub record RunOwes (answer_of : Sources → Call → Answer) (content : Bytes �
   -- a fault of reading or writing is told only where the count of the device rose
   pub reading : HasFault report.ending seen.read_faults seen.read_faults' seen.last_failed'
   -- and a fault of reading names the schedule, or a path of it
-  pub named : NamesSuch (IsReadBy (schedule_of words) (orders_told content (schedule_of words))) report.ending
+  pub named : NamesSuch (IsReadBy (schedule_of words) (lines_told content (schedule_of words))) report.ending
   pub writing : WritesCount report.ending seen.put_faults seen.put_faults'
   -- where nothing hinders it, the run comes to its end
   pub complete : Completes (mode_of words) (calls_told content (schedule_of words)) seen report.ending

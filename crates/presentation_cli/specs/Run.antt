@@ -1,17 +1,19 @@
 -- What a run on one thread owes.
-use Rattle.std.specs.Prelude.{◌≡◌, ◌⊎◌, ℕ, Bool, List, [], ◌∷◌, ◌++◌, take, codes, Option, Some, None, Ok, Err}
+use Rattle.std.specs.Prelude.{◌≡◌, ◌⊎◌, ℕ, Bool, List, [], ◌∷◌, ◌++◌, map, take, codes, Option, Some, None, Ok, Err}
 use Rattle.std.specs.Option.{option_map}
 use Rattle.std.specs.Fmt.{decimal}
+use Rattle.pc_terms.specs.Bytes.{Bytes, line_end}
 use Rattle.pc_outside.specs.Outside.{Rose}
 use Rattle.ask_history.specs.Sources.{Sources}
 use Rattle.ask_history.specs.Journal.{out_of_memory, replies}
-use Rattle.ask_history.specs.Schedule.{journal_of}
+use Rattle.ask_history.specs.Plain.{plain_line, plain_journal}
 use Rattle.ask_history.specs.declared.calls.Call.{Call}
 use Rattle.ask_history.specs.declared.events.Event.{Event}
+use Rattle.ask_history.specs.declared.events.Event.TheVariants.{Accept}
 use Rattle.ask_history.specs.declared.answers.Answer.{Answer}
-use Rattle.presentation_cli.specs.Words.{Bytes, mode_of}
+use Rattle.presentation_cli.specs.Words.{mode_of}
 use Rattle.presentation_cli.specs.Input.{Told, FoundOrTold, calls_told}
-use Rattle.presentation_cli.specs.Printed.{session_text}
+use Rattle.transcript.specs.Transcript.{session_text}
 use Rattle.presentation_cli.specs.declared.modes.Mode.{Mode}
 use Rattle.presentation_cli.specs.declared.modes.Mode.TheVariants.{Alone, Threads, Bad}
 use Rattle.presentation_cli.specs.declared.ending.Limit.{Limit}
@@ -34,9 +36,6 @@ status_of (ending.NotUtf8 name byte) = 9
 abbrev pub limit_name : Limit → Bytes
 limit_name ScriptBytes = codes "ScriptBytes"
 limit_name FileBytes = codes "FileBytes"
-
-abbrev pub line_end : Bytes
-line_end = 10 ∷ []
 
 abbrev pub read_fault_text : Bytes → Bytes
 read_fault_text name = codes "read fault: " ++ name ++ line_end
@@ -62,11 +61,22 @@ line_text (ending.NotUtf8 name byte) = not_utf8_text name byte
 
 -- ---- the output
 
+-- the calls that a journal accepts, in order
+abbrev pub accepted_calls : List Event → List Call
+accepted_calls [] = []
+accepted_calls (Accept ticket client tag call ∷ journal) = call ∷ accepted_calls journal
+accepted_calls (event ∷ journal) = accepted_calls journal
+
+-- What is printed of a session of one client with this journal, where each call of its script was accepted and these are
+-- their answers.
+abbrev pub played_text : List Event → List Answer → Bytes
+played_text journal answers = session_text (record { lines = map plain_line (accepted_calls journal) } ∷ []) journal (answers ∷ []) []
+
 -- What is printed of a session with this journal: every answer is the one of its call where it settles.
 abbrev pub transcript : (Sources → Call → Answer) → List Event → Bytes
-transcript answer_of journal = session_text journal (replies answer_of journal) []
+transcript answer_of journal = played_text journal (replies answer_of journal)
 
--- these bytes with a prefix of more behind them, where they are told
+-- these bytes with a prefix of more after them, where they are told
 abbrev pub GrewBy : Bytes → Option Bytes → Option Bytes → Type 0
 GrewBy more None now = now ≡ None
 GrewBy more (Some before) now = (n : ℕ) × (now ≡ Some (before ++ take n more))
@@ -77,28 +87,18 @@ abbrev pub Wrote : Bytes → Ending → Option Bytes → Option Bytes → Type 0
 Wrote text ending.Done before now = now ≡ option_map (λ bytes. bytes ++ text) before
 Wrote text ending.WriteFault before now = GrewBy text before now
 Wrote text ending.NoMemory before now = GrewBy text before now
-Wrote text ending.Usage before now = now ≡ before
-Wrote text (ending.ReadFault name) before now = now ≡ before
-Wrote text (ending.BadScript name line) before now = now ≡ before
-Wrote text (ending.Limit limit value) before now = now ≡ before
-Wrote text (ending.NotUtf8 name byte) before now = now ≡ before
+Wrote text _ before now = now ≡ before
 
 -- a fault of writing comes only where the count of faults rose
 abbrev pub WritesCount : Ending → ℕ → ℕ → Type 0
 WritesCount ending.WriteFault before now = Rose before now
-WritesCount ending.Done before now = Unit {0}
-WritesCount ending.Usage before now = Unit {0}
-WritesCount ending.NoMemory before now = Unit {0}
-WritesCount (ending.ReadFault name) before now = Unit {0}
-WritesCount (ending.BadScript name line) before now = Unit {0}
-WritesCount (ending.Limit limit value) before now = Unit {0}
-WritesCount (ending.NotUtf8 name byte) before now = Unit {0}
+WritesCount _ before now = Unit {0}
 
 -- ---- the journal
 
--- the journal of the calls that were found, in which the tickets are marked for want of memory that it marks itself
+-- the journal of the calls that were found, in which the tickets are marked out of memory that it marks itself
 abbrev pub IsWholeRun : Told (List Call) → List Event → Type 0
-IsWholeRun told journal = (calls : List Call) × FoundOrTold told (Ok calls) × (journal ≡ journal_of (out_of_memory journal) calls)
+IsWholeRun told journal = (calls : List Call) × FoundOrTold told (Ok calls) × (journal ≡ plain_journal (out_of_memory journal) calls)
 
 -- What the files tell of a schedule, against how the run ended and the journal that it kept. A run that was refused has
 -- an empty journal, and is refused for what is told.
@@ -108,34 +108,21 @@ Follows told ending.WriteFault journal = IsWholeRun told journal
 Follows told ending.NoMemory journal = Unit {0}
 Follows told ending.Usage journal = ⊥
 Follows told (ending.ReadFault name) journal = journal ≡ []
-Follows told (ending.BadScript name line) journal = (journal ≡ []) × FoundOrTold told (Err (ending.BadScript name line))
-Follows told (ending.Limit limit value) journal = (journal ≡ []) × FoundOrTold told (Err (ending.Limit limit value))
-Follows told (ending.NotUtf8 name byte) journal = (journal ≡ []) × FoundOrTold told (Err (ending.NotUtf8 name byte))
+Follows told e journal = (journal ≡ []) × FoundOrTold told (Err e)
 
--- the journal of a session of these calls that came to its end: theirs, in which the tickets are marked for want of memory
--- that it marks itself
+-- the journal of a session of these calls that came to its end: theirs, in which the tickets are marked out of memory that
+-- it marks itself
 abbrev pub IsOutcomeOf : List Call → Ending → List Event → Type 0
-IsOutcomeOf calls ending.Done journal = journal ≡ journal_of (out_of_memory journal) calls
-IsOutcomeOf calls ending.WriteFault journal = journal ≡ journal_of (out_of_memory journal) calls
+IsOutcomeOf calls ending.Done journal = journal ≡ plain_journal (out_of_memory journal) calls
+IsOutcomeOf calls ending.WriteFault journal = journal ≡ plain_journal (out_of_memory journal) calls
 IsOutcomeOf calls ending.NoMemory journal = Unit {0}
-IsOutcomeOf calls ending.Usage journal = ⊥
-IsOutcomeOf calls (ending.ReadFault name) journal = ⊥
-IsOutcomeOf calls (ending.BadScript name line) journal = ⊥
-IsOutcomeOf calls (ending.Limit limit value) journal = ⊥
-IsOutcomeOf calls (ending.NotUtf8 name byte) journal = ⊥
+IsOutcomeOf calls _ journal = ⊥
 
 -- ---- the whole
 
 -- how a session ends
 abbrev pub IsOutcome : Ending → Type 0
-IsOutcome ending.Done = Unit {0}
-IsOutcome ending.WriteFault = Unit {0}
-IsOutcome ending.NoMemory = Unit {0}
-IsOutcome ending.Usage = ⊥
-IsOutcome (ending.ReadFault name) = ⊥
-IsOutcome (ending.BadScript name line) = ⊥
-IsOutcome (ending.Limit limit value) = ⊥
-IsOutcome (ending.NotUtf8 name byte) = ⊥
+IsOutcome ended = (ended ≡ ending.Done) ⊎ ((ended ≡ ending.WriteFault) ⊎ (ended ≡ ending.NoMemory))
 
 -- Words that are no command of this program are answered with its usage; with the others a schedule is run.
 abbrev pub RanIn : Mode → (Bytes → Option Bytes) → Bytes → Ending → List Event → Type 0
@@ -169,7 +156,7 @@ pub record Seen : Type 0 where
 -- ---- a run that nothing hinders
 
 -- Where the words name a schedule, the files tell its calls and no device counts one more fault, a run comes to its end, or
--- it ends for want of memory.
+-- it ends out of memory.
 abbrev pub Completes : Mode → Told (List Call) → Seen → Ending → Type 0
 Completes mode told seen ended =
     (calls : List Call) → mode ≡ Alone → told ≡ Some (Ok calls)

@@ -2,14 +2,14 @@
 use Rattle.std.specs.Prelude.{◌≤◌, length, Option, Some, None, Ok}
 use Rattle.std.specs.Str.{bytes_eq}
 use Rattle.indexmap.specs.IndexMap.{IndexMap, get}
-use Rattle.presentation_cli.specs.Words.{Bytes}
+use Rattle.pc_terms.specs.Bytes.{Bytes, max_source_bytes}
 use Rattle.presentation_cli.specs.Input.{content_told, FoundOrTold}
 use Rattle.presentation_cli.specs.declared.ending.Limit.TheVariants.{FileBytes}
 
 -- a text that is what is told of its path, and no longer than a file may be
 pub record IsSource (content : Bytes → Option Bytes) (path text : Bytes) : Type 0 where
   pub told : FoundOrTold (content_told content path FileBytes) (Ok text)
-  pub small : length text ≤ 262144
+  pub small : length text ≤ max_source_bytes
 
 abbrev pub IsSourceWhereRead : (Bytes → Option Bytes) → Bytes → Option Bytes → Type 0
 IsSourceWhereRead content path None = Unit {0}

@@ -1,20 +1,17 @@
 -- The words of the command line.
-use Rattle.std.specs.Prelude.{ℕ, Bool, false, not, ◌&&◌, ◌||◌, ◌==◌, if◌then◌else◌, List, [], ◌∷◌, codes}
+use Rattle.std.specs.Prelude.{Bool, false, not, ◌&&◌, ◌||◌, ◌==◌, if◌then◌else◌, List, [], ◌∷◌, codes}
 use Rattle.std.specs.Str.{bytes_eq}
+use Rattle.pc_terms.specs.Bytes.{minus, less_sign}
+pub use Rattle.pc_terms.specs.Bytes.{Bytes}
 use Rattle.presentation_cli.specs.declared.modes.Mode.{Mode}
 use Rattle.presentation_cli.specs.declared.modes.Mode.TheVariants.{Alone, Bad}
-
-abbrev pub Bytes : Type 0
-Bytes = List ℕ
 
 -- a word that names a file: it is not empty, and begins with neither `-` nor `<`
 abbrev pub is_operand : Bytes → Bool
 is_operand [] = false
-is_operand (b ∷ bs) = not (b == 45 || b == 60)
+is_operand (b ∷ bs) = not (b == minus || b == less_sign)
 
 -- `step SCHEDULE` is the one command so far.
 abbrev pub mode_of : List Bytes → Mode
-mode_of [] = Bad
-mode_of (mode ∷ []) = Bad
 mode_of (mode ∷ schedule ∷ []) = if bytes_eq mode (codes "step") && is_operand schedule then Alone else Bad
-mode_of (mode ∷ schedule ∷ more ∷ words) = Bad
+mode_of _ = Bad

@@ -5,7 +5,7 @@ ghost use Rattle.ask_history.specs.Engine.{fresh_state};
 ghost use Rattle.ask_history.specs.Journal.{all_settled};
 ghost use Rattle.ask_history.specs.Legal.{is_legal};
 ghost use Rattle.presentation_cli.specs.Faults.{HasFault, NamesSuch, IsReadBy};
-ghost use Rattle.presentation_cli.specs.Input.{orders_told};
+ghost use Rattle.presentation_cli.specs.Input.{lines_told};
 ghost use Rattle.presentation_cli.specs.Run.{Ran, Wrote, WritesCount, transcript, schedule_of};
 ghost use Rattle.presentation_cli.specs.Owed.{RunOwes};
 
@@ -33,7 +33,7 @@ fn run_words<F: Files, O: Sink, N: Engine>(
     ensures settled { all_settled result.journal.events ≡ true }
     ensures wrote { Wrote (transcript N.answer_of result.journal.events) result.ending (O.written out.old) (O.written out.new) }
     ensures reading { HasFault result.ending (F.faults files.old) (F.faults files.new) (F.last_failed files.new) }
-    ensures named { NamesSuch (IsReadBy (schedule_of (map string_bytes words.now)) (orders_told (F.content files.old) (schedule_of (map string_bytes words.now)))) result.ending }
+    ensures named { NamesSuch (IsReadBy (schedule_of (map string_bytes words.now)) (lines_told (F.content files.old) (schedule_of (map string_bytes words.now)))) result.ending }
     ensures writing { WritesCount result.ending (O.faults out.old) (O.faults out.new) }
 {
     match mode_of(words) {

@@ -1,31 +1,36 @@
 //! Reads a schedule and the sources that it names.
 
-ghost use Rattle.std.specs.Prelude.{◌≡◌, ◌≤◌, ◌<◌, ◌+◌, [], ◌++◌, ◌∷◌, List, ℕ, length, Some, IfOk, IfErr, OnOk, MatchResult, Ok, Err};
+ghost use Rattle.std.specs.Prelude.{◌≡◌, ◌≤◌, ◌<◌, ◌+◌, true, [], ◌++◌, ◌∷◌, List, ℕ, length, Some, IfOk, IfErr, OnOk, MatchResult, Ok, Err};
 ghost use Rattle.presentation_cli.specs.Playing.{CanPlay, CanPlayAll};
 ghost use Rattle.presentation_cli.specs.declared.ending.Ending.TheVariants as ending;
 ghost use Rattle.presentation_cli.specs.Sourced.{AreSources};
 ghost use Rattle.presentation_cli.specs.declared.ending.Limit.TheVariants.{FileBytes};
-ghost use Rattle.std.specs.List.{prefix_len};
 ghost use Rattle.pc_terms.specs.Ascii.{is_ascii, all_ascii};
+ghost use Rattle.pc_terms.specs.Bytes.{max_source_bytes};
 ghost use Rattle.presentation_cli.specs.Input as spec;
-ghost use Rattle.presentation_cli.specs.Script.{orders_of};
+ghost use Rattle.std.specs.List.{prefix_len, list_all};
+ghost use Rattle.presentation_cli.specs.Played.{is_played, is_played_order, lines_played};
 ghost use Rattle.presentation_cli.specs.Faults.{ReadsCount, IsNoFault, NamesSuch, IsPathOf, IsPathIn, IsReadBy};
 
 use crate::ending::{Ending, Limit};
-use crate::script::{Order, ScriptRefused, read_schedule};
-use ask_history::Call;
+use crate::played::read_played;
+use ask_history::{Call, Line, Order};
 use indexmap::IndexMap;
 use pc_outside::{Files, ReadRefused};
-use pc_terms::{NoMemory, Row, Text};
+use pc_terms::{MAX_SOURCE_BYTES, NoMemory, Row, Text};
+use script_text::ScriptRefused;
 use std::alloc::Global;
 use std::collections::VecDeque;
+
+/// The most bytes that one script may have.
+const MAX_SCRIPT_BYTES: usize = 4194304;
 
 fn most_of(limit: Limit) -> usize
     ensures { result ≡ spec.most_of limit }
 {
     match limit {
-        Limit::ScriptBytes => 4194304,
-        Limit::FileBytes => 262144,
+        Limit::ScriptBytes => MAX_SCRIPT_BYTES,
+        Limit::FileBytes => MAX_SOURCE_BYTES,
     }
 }
 
@@ -77,28 +82,26 @@ fn read_file<F: Files>(
 
 // Reads the schedule.
 #[tactic(auto, using(crate::proofs::InputLemmas::step_rules))]
-fn read_orders<F: Files>(
-    alloc: Global,
-    files: &mut F,
-    schedule: &Text,
-) -> Result<Row<Order>, Ending>
-    ensures found { spec.FoundOrTold (spec.orders_told (F.content files.old) schedule.now) result }
-    ensures few { IfOk result (λ orders. length orders ≤ 4194305) }
+fn read_lines<F: Files>(alloc: Global, files: &mut F, schedule: &Text) -> Result<Row<Line>, Ending>
+    ensures found { spec.FoundOrTold (spec.lines_told (F.content files.old) schedule.now) result }
+    ensures played { IfOk result (λ lines. list_all is_played lines ≡ true) }
+    ensures few { IfOk result (λ lines. length lines ≤ spec.max_script_bytes + 1) }
     ensures content { (other : List ℕ) → F.content files.new other ≡ F.content files.old other }
     ensures counts { ReadsCount result (F.faults files.old) (F.faults files.new) (F.last_failed files.new) }
     ensures named { IfErr result (NamesSuch (λ file. file ≡ schedule.now)) }
 {
     let text = read_file(alloc, files, schedule, Limit::ScriptBytes)?;
-    orders_of_text(alloc, schedule, &text)
+    lines_of_text(alloc, schedule, &text)
 }
 
-fn orders_of_text(alloc: Global, schedule: &Text, text: &Text) -> Result<Row<Order>, Ending>
-    ensures found { spec.FoundOrTold (Some (spec.or_bad_script schedule.now (orders_of text.now))) result }
-    ensures few { IfOk result (λ orders. length orders ≤ length text.now + 1) }
+fn lines_of_text(alloc: Global, schedule: &Text, text: &Text) -> Result<Row<Line>, Ending>
+    ensures found { spec.FoundOrTold (Some (spec.or_bad_script schedule.now (lines_played text.now))) result }
+    ensures played { IfOk result (λ lines. list_all is_played lines ≡ true) }
+    ensures few { IfOk result (λ lines. length lines ≤ length text.now + 1) }
     ensures no_fault { IfErr result IsNoFault }
 {
-    match read_schedule(alloc, text.as_str().as_bytes()) {
-        Ok(orders) => Ok(orders),
+    match read_played(alloc, text.as_str()) {
+        Ok(lines) => Ok(lines),
         Err(ScriptRefused::BadLine(line)) => Err(Ending::BadScript(schedule.clone()?, line)),
         Err(ScriptRefused::NoMemory) => Err(Ending::NoMemory),
     }
@@ -114,7 +117,7 @@ fn source_text<F: Files>(
 ) -> Result<Text, Ending>
     requires { AreSources (F.content files.old) sources.old }
     ensures found { spec.FoundOrTold (spec.content_told (F.content files.old) path.now FileBytes) result }
-    ensures small { IfOk result (λ text. length text ≤ 262144) }
+    ensures small { IfOk result (λ text. length text ≤ max_source_bytes) }
     ensures sources { OnOk result (AreSources (F.content files.old) sources.new) }
     ensures content { (other : List ℕ) → F.content files.new other ≡ F.content files.old other }
     ensures counts { ReadsCount result (F.faults files.old) (F.faults files.new) (F.last_failed files.new) }
@@ -128,7 +131,7 @@ fn source_text<F: Files>(
     Ok(text)
 }
 
-// The call of an order.
+// The call of a line that is played.
 #[tactic(auto, using(crate::proofs::InputLemmas::step_rules))]
 fn call_of<F: Files>(
     alloc: Global,
@@ -136,7 +139,8 @@ fn call_of<F: Files>(
     sources: &mut IndexMap<Text, Text>,
     order: &Order,
 ) -> Result<Call, Ending>
-    requires { AreSources (F.content files.old) sources.old }
+    requires sources { AreSources (F.content files.old) sources.old }
+    requires played { is_played_order order.now ≡ true }
     ensures found { spec.FoundOrTold (spec.call_told (F.content files.old) order.now) result }
     ensures can { IfOk result CanPlay }
     ensures sources { OnOk result (AreSources (F.content files.old) sources.new) }
@@ -145,16 +149,20 @@ fn call_of<F: Files>(
     ensures named { IfErr result (NamesSuch (IsPathOf order.now)) }
 {
     match order {
-        Order::TypeAt(name, offset) => Ok(Call::TypeAt(name.clone()?, *offset)),
-        Order::Reload(name, path) => {
-            let text = source_text(alloc, files, sources, path)?;
-            reload_of(alloc, name, text)
-        }
+        Order::Call(Call::TypeAt(name, offset)) => Ok(Call::TypeAt(name.clone()?, *offset)),
+        Order::Call(Call::Reload(entries)) => match entries.as_slice() {
+            [(name, path)] => {
+                let text = source_text(alloc, files, sources, path)?;
+                reload_of(alloc, name, text)
+            }
+            _ => unreachable!(),
+        },
+        _ => unreachable!(),
     }
 }
 
 fn reload_of(alloc: Global, name: &Text, text: Text) -> Result<Call, Ending>
-    requires { length text ≤ 262144 }
+    requires { length text ≤ max_source_bytes }
     ensures call { IfOk result (λ call. call ≡ spec.reload_call name.now text) }
     ensures can { IfOk result CanPlay }
     ensures no_memory { IfErr result (λ e. e ≡ ending.NoMemory) }
@@ -164,25 +172,26 @@ fn reload_of(alloc: Global, name: &Text, text: Text) -> Result<Call, Ending>
     Ok(Call::Reload(entries))
 }
 
-// The calls of all orders, with the texts of their sources.
+// The calls of all lines, with the texts of their sources.
 fn calls_of<F: Files>(
     alloc: Global,
     files: &mut F,
-    orders: &[Order],
+    lines: &[Line],
 ) -> Result<VecDeque<Call>, Ending>
+    requires { list_all is_played lines.now ≡ true }
     ensures found { MatchResult result
-        (λ calls. spec.FoundOrTold (spec.calls_from (F.content files.old) [] orders.now) (Ok calls.items))
-        (λ e. spec.FoundOrTold (spec.calls_from (F.content files.old) [] orders.now) (Err e)) }
+        (λ calls. spec.FoundOrTold (spec.calls_from (F.content files.old) [] lines.now) (Ok calls.items))
+        (λ e. spec.FoundOrTold (spec.calls_from (F.content files.old) [] lines.now) (Err e)) }
     ensures can { IfOk result (λ calls. CanPlayAll calls.items) }
-    ensures few { IfOk result (λ calls. length calls.items ≤ length orders.now) }
+    ensures few { IfOk result (λ calls. length calls.items ≤ length lines.now) }
     ensures content { (other : List ℕ) → F.content files.new other ≡ F.content files.old other }
     ensures counts { ReadsCount result (F.faults files.old) (F.faults files.new) (F.last_failed files.new) }
-    ensures named { IfErr result (NamesSuch (IsPathIn orders.now)) }
+    ensures named { IfErr result (NamesSuch (IsPathIn lines.now)) }
 {
     let mut sources = IndexMap::new(alloc);
     let mut calls = VecDeque::new(alloc);
-    for order in orders {
-        match call_of(alloc, files, &mut sources, order) {
+    for line in lines {
+        match call_of(alloc, files, &mut sources, &line.order) {
             Ok(call) => calls.push_back(call)?,
             Err(refused) => return Err(refused),
         }
@@ -201,12 +210,12 @@ pub fn read_calls<F: Files>(
         (λ calls. spec.FoundOrTold (spec.calls_told (F.content files.old) schedule.now) (Ok calls.items))
         (λ e. spec.FoundOrTold (spec.calls_told (F.content files.old) schedule.now) (Err e)) }
     ensures can { IfOk result (λ calls. CanPlayAll calls.items) }
-    ensures few { IfOk result (λ calls. length calls.items ≤ 4194305) }
+    ensures few { IfOk result (λ calls. length calls.items ≤ spec.max_script_bytes + 1) }
     ensures counts { ReadsCount result (F.faults files.old) (F.faults files.new) (F.last_failed files.new) }
-    ensures named { IfErr result (NamesSuch (IsReadBy schedule.now (spec.orders_told (F.content files.old) schedule.now))) }
+    ensures named { IfErr result (NamesSuch (IsReadBy schedule.now (spec.lines_told (F.content files.old) schedule.now))) }
 {
-    match read_orders(alloc, files, schedule) {
-        Ok(orders) => calls_of(alloc, files, orders.as_slice()),
+    match read_lines(alloc, files, schedule) {
+        Ok(lines) => calls_of(alloc, files, lines.as_slice()),
         Err(refused) => Err(refused),
     }
 }

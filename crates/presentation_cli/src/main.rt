@@ -5,12 +5,12 @@ mod alone;
 mod ending;
 mod input;
 mod modes;
+mod played;
 mod playing;
-mod printed;
 mod report;
 mod run;
-mod script;
 mod serving;
+mod shown;
 mod telling;
 
 use alone::run_alone;
@@ -21,7 +21,7 @@ use std::process::ExitCode;
 use std::rt::Env;
 use std::{env, io};
 
-// The words behind the program's name.
+// The words after the program's name.
 fn command_words(rt: &(impl Env + AllocGlobal)) -> io::Result<Vec<String>> {
     let mut words = Vec::new(rt.alloc());
     for word in env::args(rt)?.skip(1) {

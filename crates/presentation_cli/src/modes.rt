@@ -21,7 +21,7 @@ fn is_operand(word: &[u8]) -> bool
     }
 }
 
-/// The mode that the words behind the program's name ask for. It takes no memory.
+/// The mode that the words after the program's name ask for. It takes no memory.
 pub fn mode_of(words: &[String]) -> Mode
     ensures { result ≡ spec.mode_of (map string_bytes words.now) }
 {

@@ -3,7 +3,7 @@
 ghost use Rattle.std.specs.Prelude.{◌≡◌, ◌∷◌, ◌++◌, ◌<◌, ◌≤◌, ◌+◌, ◌^◌, true, [], length, OnOk};
 ghost use Rattle.ask_history.specs.Sources.{mutated};
 ghost use Rattle.ask_history.specs.Journal.{accepted, after, out_of_memory};
-ghost use Rattle.ask_history.specs.Schedule.{journal_of};
+ghost use Rattle.ask_history.specs.Plain.{plain_journal};
 ghost use Rattle.ask_history.specs.Engine.{HasFileSizes, is_served, fresh_state};
 ghost use Rattle.presentation_cli.specs.Playing.{IsInStep, HasPlayed, CanPlayAll};
 
@@ -56,7 +56,7 @@ pub fn play<N: Engine>(
     requires can { CanPlayAll calls.items }
     requires few { length calls.items < 2 ^ 30 }
     ensures in_step { IsInStep N.answer_of (N.state engine.new) result.0.events.items result.0.answers.items }
-    ensures whole { OnOk result.1 (result.0.events.items ≡ journal_of (out_of_memory result.0.events.items) calls.items) }
+    ensures whole { OnOk result.1 (result.0.events.items ≡ plain_journal (out_of_memory result.0.events.items) calls.items) }
 {
     let mut played = Played {
         events: Vec::new(alloc),

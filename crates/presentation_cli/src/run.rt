@@ -3,18 +3,17 @@
 ghost use Rattle.std.specs.Prelude.{◌≡◌, ◌≤◌, ◌<◌, ◌^◌, true, [], ℕ, List, length, IsTrue};
 ghost use Rattle.presentation_cli.specs.Run as spec;
 ghost use Rattle.presentation_cli.specs.Playing.{CanPlayAll};
-ghost use Rattle.presentation_cli.specs.Input.{calls_told, orders_told};
+ghost use Rattle.presentation_cli.specs.Input.{calls_told, lines_told};
 ghost use Rattle.presentation_cli.specs.Faults.{HasFault, NamesSuch, IsReadBy};
 ghost use Rattle.ask_history.specs.Engine.{fresh_state};
 ghost use Rattle.ask_history.specs.Journal.{all_settled};
 ghost use Rattle.ask_history.specs.Legal.{is_legal};
-ghost use Rattle.presentation_cli.specs.Printed.{session_text};
 
 use crate::ending::{Ending, Limit};
 use crate::input::read_calls;
 use crate::playing::{Played, play};
-use crate::printed::print_session;
-use ask_history::{Answer, Call, Engine, Event, Journal};
+use crate::shown::print_played;
+use ask_history::{Answer, Call, Engine, Journal};
 use pc_outside::{Files, PutRefused, Sink};
 use pc_terms::{NoMemory, Row, Text};
 use std::alloc::Global;
@@ -24,14 +23,14 @@ use std::collections::VecDeque;
 fn write_session<O: Sink>(
     alloc: Global,
     out: &mut O,
-    events: &[Event],
-    answers: &[Answer],
+    journal: &Journal,
+    answers: Vec<Answer>,
 ) -> Ending
-    ensures wrote { spec.Wrote (session_text events.now answers.now []) result (O.written out.old) (O.written out.new) }
+    ensures wrote { spec.Wrote (spec.played_text journal.now.events answers.items) result (O.written out.old) (O.written out.new) }
     ensures counts { spec.WritesCount result (O.faults out.old) (O.faults out.new) }
     ensures outcome { spec.IsOutcome result }
 {
-    match print_session(alloc, events, answers, &[]) {
+    match print_played(alloc, journal, answers) {
         Err(NoMemory {}) => Ending::NoMemory,
         Ok(text) => match out.put(text.as_str().as_bytes()) {
             Ok(()) => Ending::Done,
@@ -67,15 +66,14 @@ fn run_session<O: Sink, N: Engine>(
 {
     let (played, whole) = play(alloc, engine, calls);
     let Played { events, answers } = played;
+    let journal = Journal {
+        events: Row::from_vec(events),
+    };
     let ending = match whole {
-        Ok(()) => write_session(alloc, out, events.as_slice(), answers.as_slice()),
+        Ok(()) => write_session(alloc, out, &journal, answers),
         Err(NoMemory {}) => Ending::NoMemory,
     };
-    let events = Row::from_vec(events);
-    Kept {
-        ending,
-        journal: Journal { events },
-    }
+    Kept { ending, journal }
 }
 
 // A run that does not begin a session.
@@ -106,7 +104,7 @@ pub fn run_step<F: Files, O: Sink, N: Engine>(
     ensures settled { all_settled result.journal.events ≡ true }
     ensures wrote { spec.Wrote (spec.transcript N.answer_of result.journal.events) result.ending (O.written out.old) (O.written out.new) }
     ensures reading { HasFault result.ending (F.faults files.old) (F.faults files.new) (F.last_failed files.new) }
-    ensures named { NamesSuch (IsReadBy schedule.now (orders_told (F.content files.old) schedule.now)) result.ending }
+    ensures named { NamesSuch (IsReadBy schedule.now (lines_told (F.content files.old) schedule.now)) result.ending }
     ensures writing { spec.WritesCount result.ending (O.faults out.old) (O.faults out.new) }
 {
     let schedule = match Text::new(alloc, schedule) {

@@ -121,8 +121,8 @@ fn put_line<E: Sink>(err: &mut E, line: &str)
     }
 }
 
-/// Tells how a run ended. Where no memory is found for the line of an ending that was to be told, the run ends for want
-/// of memory.
+/// Tells how a run ended. Where there is no memory for the line of an ending that was to be told, the run ends out of
+/// memory.
 pub fn tell<E: Sink>(alloc: Global, err: &mut E, ending: Ending) -> Ending
     ensures told { E.whole err.new ≡ true → E.written err.new ≡ option_map (λ bytes. bytes ++ spec.line_text result) (E.written err.old) }
     ensures same { IsOrNoMemory ending result }

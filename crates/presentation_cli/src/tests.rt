@@ -3,8 +3,9 @@
 use crate::alone::run_alone;
 use compiler_loop::Core;
 use pc_outside::{MemoryFiles, MemorySink};
-use pc_terms::NoMemory;
+use pc_terms::{MAX_SOURCE_BYTES, NoMemory};
 use std::alloc::Global;
+use std::process::Abort;
 use std::test::Fail;
 
 // A run, and what it must come to.
@@ -119,267 +120,6 @@ fn with_source(alloc: Global, mut case: Case, source: Vec<u8>) -> Result<Case, N
     Ok(case)
 }
 
-fn trees(alloc: Global) -> Result<Vec<Case>, NoMemory> {
-    Ok(vec![in alloc;
-        done(
-            alloc,
-            "a literal at its start",
-            &[("s", LITERAL), ("a.txt", A)],
-            LITERAL_PRINTED
-        )?,
-        done(
-            alloc,
-            "a literal at its end, by a schedule with lines that are passed over and without a last LF",
-            &[
-                ("s", "# its end\n\nreload A.scala a.txt\ntype A.scala 20"),
-                ("a.txt", A)
-            ],
-            "journal\t4\n\
-            0\taccept\t0\t0\t1\treload A.scala 22\n\
-            1\tsettle\t0\tdone\n\
-            2\taccept\t1\t0\t2\ttype A.scala 20\n\
-            3\tsettle\t1\tdone\n\
-            client\t0\n\
-            1\tdone\n\
-            2\ttree\tLiteral\t19-20\tInt\t-\n\
-            end\n",
-        )?,
-        done(
-            alloc,
-            "a definition, an offset behind the text, and an object",
-            &[
-                (
-                    "s",
-                    "reload A.scala a.txt\ntype A.scala 15\ntype A.scala 23\ntype A.scala 0\n"
-                ),
-                ("a.txt", A),
-            ],
-            "journal\t8\n\
-            0\taccept\t0\t0\t1\treload A.scala 22\n\
-            1\tsettle\t0\tdone\n\
-            2\taccept\t1\t0\t2\ttype A.scala 15\n\
-            3\tsettle\t1\tdone\n\
-            4\taccept\t2\t0\t3\ttype A.scala 23\n\
-            5\tsettle\t2\tdone\n\
-            6\taccept\t3\t0\t4\ttype A.scala 0\n\
-            7\tsettle\t3\tdone\n\
-            client\t0\n\
-            1\tdone\n\
-            2\ttree\tValDef\t11-20\tInt\tval A.x\n\
-            3\tnotree\n\
-            4\ttree\tObjectDef\t0-22\t-\tobject A\n\
-            end\n",
-        )?,
-    ]?)
-}
-
-fn loads(alloc: Global) -> Result<Vec<Case>, NoMemory> {
-    Ok(vec![in alloc;
-        done(
-            alloc,
-            "a schedule without lines",
-            &[("s", "")],
-            "journal\t0\nclient\t0\nend\n"
-        )?,
-        done(
-            alloc,
-            "an empty text, and a file that was never loaded",
-            &[
-                (
-                    "s",
-                    "reload E.scala e.txt\ntype E.scala 0\ntype N.scala 0\n"
-                ),
-                ("e.txt", "")
-            ],
-            "journal\t6\n\
-            0\taccept\t0\t0\t1\treload E.scala 0\n\
-            1\tsettle\t0\tdone\n\
-            2\taccept\t1\t0\t2\ttype E.scala 0\n\
-            3\tsettle\t1\tdone\n\
-            4\taccept\t2\t0\t3\ttype N.scala 0\n\
-            5\tsettle\t2\tdone\n\
-            client\t0\n\
-            1\tdone\n\
-            2\ttree\tUnit\t0-0\t-\t-\n\
-            3\tnounit\n\
-            end\n",
-        )?,
-        done(
-            alloc,
-            "a name, once a text with it is loaded",
-            &[
-                (
-                    "s",
-                    "reload A.scala a.txt\ntype A.scala 30\nreload A.scala two.txt\ntype A.scala 30\n",
-                ),
-                ("a.txt", A),
-                ("two.txt", TWO_VALS),
-            ],
-            "journal\t8\n\
-            0\taccept\t0\t0\t1\treload A.scala 22\n\
-            1\tsettle\t0\tdone\n\
-            2\taccept\t1\t0\t2\ttype A.scala 30\n\
-            3\tsettle\t1\tdone\n\
-            4\taccept\t2\t0\t3\treload A.scala 33\n\
-            5\tsettle\t2\tdone\n\
-            6\taccept\t3\t0\t4\ttype A.scala 30\n\
-            7\tsettle\t3\tdone\n\
-            client\t0\n\
-            1\tdone\n\
-            2\tnotree\n\
-            3\tdone\n\
-            4\ttree\tIdent\t30-31\tInt\tval A.x\n\
-            end\n",
-        )?,
-    ]?)
-}
-
-fn unread(alloc: Global) -> Result<Vec<Case>, NoMemory> {
-    Ok(vec![in alloc;
-        done(
-            alloc,
-            "a name of a later val",
-            &[
-                ("s", "reload B.scala b.txt\ntype B.scala 19\n"),
-                ("b.txt", B)
-            ],
-            "journal\t4\n\
-            0\taccept\t0\t0\t1\treload B.scala 33\n\
-            1\tsettle\t0\tdone\n\
-            2\taccept\t1\t0\t2\ttype B.scala 19\n\
-            3\tsettle\t1\tdone\n\
-            client\t0\n\
-            1\tdone\n\
-            2\tunread\n\
-            end\n",
-        )?,
-        done(
-            alloc,
-            "two files of one text, whose objects have the same name",
-            &[
-                (
-                    "s",
-                    "reload A.scala a.txt\nreload C.scala a.txt\ntype A.scala 19\n"
-                ),
-                ("a.txt", A),
-            ],
-            "journal\t6\n\
-            0\taccept\t0\t0\t1\treload A.scala 22\n\
-            1\tsettle\t0\tdone\n\
-            2\taccept\t1\t0\t2\treload C.scala 22\n\
-            3\tsettle\t1\tdone\n\
-            4\taccept\t2\t0\t3\ttype A.scala 19\n\
-            5\tsettle\t2\tdone\n\
-            client\t0\n\
-            1\tdone\n\
-            2\tdone\n\
-            3\tunread\n\
-            end\n",
-        )?,
-    ]?)
-}
-
-fn refusals(alloc: Global) -> Result<Vec<Case>, NoMemory> {
-    Ok(vec![in alloc;
-        usage(alloc, "no words", &[])?,
-        usage(alloc, "a command without its schedule", &["step"])?,
-        usage(
-            alloc,
-            "an option in the place of the schedule",
-            &["step", "-s"]
-        )?,
-        usage(alloc, "a word too many", &["step", "s", "s"])?,
-        refused(alloc, "no schedule at its path", &[], 3, "read fault: s\n")?,
-        refused(
-            alloc,
-            "no source at the second path",
-            &[
-                ("s", "reload A.scala a.txt\nreload B.scala b.txt\n"),
-                ("a.txt", A)
-            ],
-            3,
-            "read fault: b.txt\n",
-        )?,
-        refused(
-            alloc,
-            "a second line that lacks its offset",
-            &[("s", "reload A.scala a.txt\ntype A.scala\n"), ("a.txt", A)],
-            4,
-            "bad script: s line 2\n",
-        )?,
-    ]?)
-}
-
-fn sizes(alloc: Global) -> Result<Vec<Case>, NoMemory> {
-    let foreign = refused(
-        alloc,
-        "a byte outside ASCII",
-        &[],
-        9,
-        "not UTF-8: a.txt byte 1\n",
-    )?;
-    let longer = refused(
-        alloc,
-        "a source above its limit",
-        &[],
-        8,
-        "limit FileBytes 262145\n",
-    )?;
-    let longest = done(
-        alloc,
-        "a source at its limit",
-        &[],
-        "journal\t2\n\
-        0\taccept\t0\t0\t1\treload A.scala 262144\n\
-        1\tsettle\t0\tdone\n\
-        client\t0\n\
-        1\tdone\n\
-        end\n",
-    )?;
-    Ok(vec![in alloc;
-        with_source(alloc, foreign, vec![in alloc; 0x6F, 0xFF]?)?,
-        with_source(alloc, longer, vec![in alloc; b' '; 262145]?)?,
-        with_source(alloc, longest, vec![in alloc; b' '; 262144]?)?,
-    ]?)
-}
-
-fn failing_puts(alloc: Global) -> Result<Vec<Case>, NoMemory> {
-    let loaded = [("s", LITERAL), ("a.txt", A)];
-    let out = done(alloc, "a put on the output fails", &loaded, HALF_PRINTED)?;
-    let both = done(alloc, "a put on each sink fails", &loaded, HALF_PRINTED)?;
-    let told = usage(alloc, "a put of the usage fails", &[])?;
-    let silent = done(
-        alloc,
-        "nothing is put for the user",
-        &loaded,
-        LITERAL_PRINTED,
-    )?;
-    Ok(vec![in alloc;
-        Case {
-            out_fails: true,
-            status: 5,
-            err: "write fault\n",
-            ..out
-        },
-        Case {
-            out_fails: true,
-            err_fails: true,
-            status: 5,
-            err: "write ",
-            ..both
-        },
-        Case {
-            err_fails: true,
-            err: "usage: batch NAME... or step ",
-            ..told
-        },
-        Case {
-            err_fails: true,
-            ..silent
-        },
-    ]?)
-}
-
 // A sink whose first put fails, or none.
 fn sink(alloc: Global, fails: bool) -> Result<MemorySink, NoMemory> {
     let failing = if fails {
@@ -409,25 +149,317 @@ fn run(alloc: Global, case: &mut Case) -> Result<Left, NoMemory> {
     })
 }
 
-#[test]
-fn runs_come_to_their_status_output_and_line(rt: HostRuntime) -> Result<(), Fail> {
-    let alloc = rt.alloc();
-    let tables = vec![in alloc;
-        trees(alloc)?,
-        loads(alloc)?,
-        unread(alloc)?,
-        refusals(alloc)?,
-        sizes(alloc)?,
-        failing_puts(alloc)?,
-    ]?;
-    for table in tables {
-        for mut case in table {
-            let left = run(alloc, &mut case)?;
-            let name = case.name;
-            assert_eq!(rt; left.status, case.status, "{name}");
-            assert_eq!(rt; left.out.bytes(), case.out.as_bytes(), "{name}");
-            assert_eq!(rt; left.err.bytes(), case.err.as_bytes(), "{name}");
-        }
-    }
+fn agree(rt: &(impl Abort + AllocGlobal), case: Case) -> Result<(), Fail> {
+    let mut case = case;
+    let left = run(rt.alloc(), &mut case)?;
+    let name = case.name;
+    assert_eq!(rt; left.status, case.status, "{name}");
+    assert_eq!(rt; left.out.bytes(), case.out.as_bytes(), "{name}");
+    assert_eq!(rt; left.err.bytes(), case.err.as_bytes(), "{name}");
     Ok(())
+}
+
+#[test]
+fn trees_are_printed(rt: HostRuntime) -> Result<(), Fail> {
+    let alloc = rt.alloc();
+    let case = done(
+        alloc,
+        "a literal at its start",
+        &[("s", LITERAL), ("a.txt", A)],
+        LITERAL_PRINTED,
+    )?;
+    agree(&rt, case)?;
+    let case = done(
+        alloc,
+        "a literal at its end, by a schedule with lines that are passed over and without a last LF",
+        &[
+            ("s", "# its end\n\nreload A.scala a.txt\ntype A.scala 20"),
+            ("a.txt", A),
+        ],
+        "journal\t4\n\
+            0\taccept\t0\t0\t1\treload A.scala 22\n\
+            1\tsettle\t0\tdone\n\
+            2\taccept\t1\t0\t2\ttype A.scala 20\n\
+            3\tsettle\t1\tdone\n\
+            client\t0\n\
+            1\tdone\n\
+            2\ttree\tLiteral\t19-20\tInt\t-\n\
+            end\n",
+    )?;
+    agree(&rt, case)?;
+    let case = done(
+        alloc,
+        "a definition, an offset past the end of the text, and an object",
+        &[
+            (
+                "s",
+                "reload A.scala a.txt\ntype A.scala 15\ntype A.scala 23\ntype A.scala 0\n",
+            ),
+            ("a.txt", A),
+        ],
+        "journal\t8\n\
+            0\taccept\t0\t0\t1\treload A.scala 22\n\
+            1\tsettle\t0\tdone\n\
+            2\taccept\t1\t0\t2\ttype A.scala 15\n\
+            3\tsettle\t1\tdone\n\
+            4\taccept\t2\t0\t3\ttype A.scala 23\n\
+            5\tsettle\t2\tdone\n\
+            6\taccept\t3\t0\t4\ttype A.scala 0\n\
+            7\tsettle\t3\tdone\n\
+            client\t0\n\
+            1\tdone\n\
+            2\ttree\tValDef\t11-20\tInt\tval A.x\n\
+            3\tnotree\n\
+            4\ttree\tObjectDef\t0-22\t-\tobject A\n\
+            end\n",
+    )?;
+    agree(&rt, case)?;
+    Ok(())
+}
+
+#[test]
+fn asks_see_what_is_loaded(rt: HostRuntime) -> Result<(), Fail> {
+    let alloc = rt.alloc();
+    let case = done(
+        alloc,
+        "a schedule without lines",
+        &[("s", "")],
+        "journal\t0\nclient\t0\nend\n",
+    )?;
+    agree(&rt, case)?;
+    let case = done(
+        alloc,
+        "an empty text, and a file that was never loaded",
+        &[
+            (
+                "s",
+                "reload E.scala e.txt\ntype E.scala 0\ntype N.scala 0\n",
+            ),
+            ("e.txt", ""),
+        ],
+        "journal\t6\n\
+            0\taccept\t0\t0\t1\treload E.scala 0\n\
+            1\tsettle\t0\tdone\n\
+            2\taccept\t1\t0\t2\ttype E.scala 0\n\
+            3\tsettle\t1\tdone\n\
+            4\taccept\t2\t0\t3\ttype N.scala 0\n\
+            5\tsettle\t2\tdone\n\
+            client\t0\n\
+            1\tdone\n\
+            2\ttree\tUnit\t0-0\t-\t-\n\
+            3\tnounit\n\
+            end\n",
+    )?;
+    agree(&rt, case)?;
+    let case = done(
+        alloc,
+        "a name, once a text with it is loaded",
+        &[
+            (
+                "s",
+                "reload A.scala a.txt\ntype A.scala 30\nreload A.scala two.txt\ntype A.scala 30\n",
+            ),
+            ("a.txt", A),
+            ("two.txt", TWO_VALS),
+        ],
+        "journal\t8\n\
+            0\taccept\t0\t0\t1\treload A.scala 22\n\
+            1\tsettle\t0\tdone\n\
+            2\taccept\t1\t0\t2\ttype A.scala 30\n\
+            3\tsettle\t1\tdone\n\
+            4\taccept\t2\t0\t3\treload A.scala 33\n\
+            5\tsettle\t2\tdone\n\
+            6\taccept\t3\t0\t4\ttype A.scala 30\n\
+            7\tsettle\t3\tdone\n\
+            client\t0\n\
+            1\tdone\n\
+            2\tnotree\n\
+            3\tdone\n\
+            4\ttree\tIdent\t30-31\tInt\tval A.x\n\
+            end\n",
+    )?;
+    agree(&rt, case)?;
+    Ok(())
+}
+
+#[test]
+fn texts_that_are_not_read_yet(rt: HostRuntime) -> Result<(), Fail> {
+    let alloc = rt.alloc();
+    let case = done(
+        alloc,
+        "a name of a later val",
+        &[
+            ("s", "reload B.scala b.txt\ntype B.scala 19\n"),
+            ("b.txt", B),
+        ],
+        "journal\t4\n\
+            0\taccept\t0\t0\t1\treload B.scala 33\n\
+            1\tsettle\t0\tdone\n\
+            2\taccept\t1\t0\t2\ttype B.scala 19\n\
+            3\tsettle\t1\tdone\n\
+            client\t0\n\
+            1\tdone\n\
+            2\tunread\n\
+            end\n",
+    )?;
+    agree(&rt, case)?;
+    let case = done(
+        alloc,
+        "two files of one text, whose objects have the same name",
+        &[
+            (
+                "s",
+                "reload A.scala a.txt\nreload C.scala a.txt\ntype A.scala 19\n",
+            ),
+            ("a.txt", A),
+        ],
+        "journal\t6\n\
+            0\taccept\t0\t0\t1\treload A.scala 22\n\
+            1\tsettle\t0\tdone\n\
+            2\taccept\t1\t0\t2\treload C.scala 22\n\
+            3\tsettle\t1\tdone\n\
+            4\taccept\t2\t0\t3\ttype A.scala 19\n\
+            5\tsettle\t2\tdone\n\
+            client\t0\n\
+            1\tdone\n\
+            2\tdone\n\
+            3\tunread\n\
+            end\n",
+    )?;
+    agree(&rt, case)?;
+    Ok(())
+}
+
+#[test]
+fn arguments_schedules_and_paths_are_refused(rt: HostRuntime) -> Result<(), Fail> {
+    let alloc = rt.alloc();
+    let case = usage(alloc, "no words", &[])?;
+    agree(&rt, case)?;
+    let case = usage(alloc, "a command without its schedule", &["step"])?;
+    agree(&rt, case)?;
+    let case = usage(
+        alloc,
+        "an option where the schedule belongs",
+        &["step", "-s"],
+    )?;
+    agree(&rt, case)?;
+    let case = usage(alloc, "a word too many", &["step", "s", "s"])?;
+    agree(&rt, case)?;
+    let case = refused(alloc, "no schedule at its path", &[], 3, "read fault: s\n")?;
+    agree(&rt, case)?;
+    let case = refused(
+        alloc,
+        "no source at the second path",
+        &[
+            ("s", "reload A.scala a.txt\nreload B.scala b.txt\n"),
+            ("a.txt", A),
+        ],
+        3,
+        "read fault: b.txt\n",
+    )?;
+    agree(&rt, case)?;
+    let case = refused(
+        alloc,
+        "a second line that lacks its offset",
+        &[("s", "reload A.scala a.txt\ntype A.scala\n"), ("a.txt", A)],
+        4,
+        "bad script: s line 2\n",
+    )?;
+    agree(&rt, case)?;
+    let case = refused(
+        alloc,
+        "a line that is not played so far, after a comment and an empty line",
+        &[
+            ("s", "# s\n\nreload A.scala a.txt\n# t\ncancel 1\n"),
+            ("a.txt", A),
+        ],
+        4,
+        "bad script: s line 5\n",
+    )?;
+    agree(&rt, case)?;
+    Ok(())
+}
+
+#[test]
+fn sources_at_their_limit_and_above(rt: HostRuntime) -> Result<(), Fail> {
+    let alloc = rt.alloc();
+    let foreign = refused(
+        alloc,
+        "a byte outside ASCII",
+        &[],
+        9,
+        "not UTF-8: a.txt byte 1\n",
+    )?;
+    agree(
+        &rt,
+        with_source(alloc, foreign, vec![in alloc; 0x6F, 0xFF]?)?,
+    )?;
+    let longer = refused(
+        alloc,
+        "a source above its limit",
+        &[],
+        8,
+        "limit FileBytes 262145\n",
+    )?;
+    agree(
+        &rt,
+        with_source(alloc, longer, vec![in alloc; b' '; MAX_SOURCE_BYTES + 1]?)?,
+    )?;
+    let longest = done(
+        alloc,
+        "a source at its limit",
+        &[],
+        "journal\t2\n\
+        0\taccept\t0\t0\t1\treload A.scala 262144\n\
+        1\tsettle\t0\tdone\n\
+        client\t0\n\
+        1\tdone\n\
+        end\n",
+    )?;
+    agree(
+        &rt,
+        with_source(alloc, longest, vec![in alloc; b' '; MAX_SOURCE_BYTES]?)?,
+    )?;
+    Ok(())
+}
+
+#[test]
+fn a_put_fails(rt: HostRuntime) -> Result<(), Fail> {
+    let alloc = rt.alloc();
+    let loaded = [("s", LITERAL), ("a.txt", A)];
+    let out = done(alloc, "a put on the output fails", &loaded, HALF_PRINTED)?;
+    let out = Case {
+        out_fails: true,
+        status: 5,
+        err: "write fault\n",
+        ..out
+    };
+    agree(&rt, out)?;
+    let both = done(alloc, "a put on each sink fails", &loaded, HALF_PRINTED)?;
+    let both = Case {
+        out_fails: true,
+        err_fails: true,
+        status: 5,
+        err: "write ",
+        ..both
+    };
+    agree(&rt, both)?;
+    let told = usage(alloc, "a put of the usage fails", &[])?;
+    let told = Case {
+        err_fails: true,
+        err: "usage: batch NAME... or step ",
+        ..told
+    };
+    agree(&rt, told)?;
+    let silent = done(
+        alloc,
+        "nothing is put for the user",
+        &loaded,
+        LITERAL_PRINTED,
+    )?;
+    let silent = Case {
+        err_fails: true,
+        ..silent
+    };
+    agree(&rt, silent)
 }

@@ -1,8 +1,0 @@
-use Rattle.std.proofs.Common.{◌≡◌, ◌++◌, drop}
-use Rattle.std.specs.List.{flat_map}
-use Rattle.presentation_cli.specs.Printed.{problem_line}
-use Rattle.presentation_cli.proofs.printed.fields.push_problems.Given as goal
-
--- what is written so far, and the problems that are left
-abbrev pub invariant-loop-problem : goal.invariant-loop-problem
-invariant-loop-problem l = l.text ++ flat_map problem_line (drop l.problem-index l.problems) ≡ l.initial.text ++ flat_map problem_line l.problems

@@ -1,0 +1,10 @@
+pub mod AboveLemmas
+pub mod Joins
+pub mod NumberTexts
+pub mod PieceLemmas
+pub mod WordLemmas
+pub mod WrittenOrders
+pub mod WrittenLines
+pub mod GrammarLemmas
+pub mod PairLemmas
+pub mod TextLemmas

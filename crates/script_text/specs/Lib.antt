@@ -1,0 +1,13 @@
+pub mod Characters
+pub mod Words
+pub mod LineText
+pub mod Standing
+pub mod Grammar
+pub mod Pieces
+pub mod Reading
+pub mod Orders
+pub mod Above
+pub mod Refusing
+pub mod Numbering
+pub mod Texts
+pub mod Known

@@ -1,0 +1,53 @@
+-- How a line of a script is written. Numbers are written in one way, and one space stands between two words.
+use Rattle.std.specs.Prelude.{◌*◌, List, [], ◌∷◌, ◌++◌, codes, replicate, Option, Some, None}
+use Rattle.std.specs.List.{join_with_byte}
+use Rattle.std.specs.Fmt.{decimal}
+use Rattle.ask_history.specs.declared.calls.Call.{Call}
+use Rattle.ask_history.specs.declared.calls.Call.TheVariants.{Reload, Remove, TypeAt, MembersAt, ScopeAt, LinkAt, Structure, LoadedTyped}
+use Rattle.ask_history.specs.declared.script.Order.{Order}
+use Rattle.ask_history.specs.declared.script.Order.TheVariants as order
+use Rattle.ask_history.specs.declared.script.Line.{Line}
+use Rattle.script_text.specs.declared.kinds.Holder.{Holder}
+use Rattle.script_text.specs.declared.kinds.Holder.TheVariants as holder
+use Rattle.script_text.specs.declared.kinds.Numbers.{Numbers}
+use Rattle.pc_terms.specs.Bytes.{space}
+use Rattle.script_text.specs.Characters.{full_stop, at_sign}
+use Rattle.script_text.specs.Words.{Bytes}
+use Rattle.script_text.specs.Standing.{numbers_in}
+
+-- NAME PATH NAME PATH ..
+abbrev pub pair_words : List (Bytes × Bytes) → List Bytes
+pair_words [] = []
+pair_words (entry ∷ entries) = entry.0 ∷ entry.1 ∷ pair_words entries
+
+-- The text of a reloaded file stands for its path here.
+abbrev pub call_words : Call → List Bytes
+call_words (Reload entries) = codes "reload" ∷ pair_words entries
+call_words (Remove names) = codes "remove" ∷ names
+call_words (TypeAt name offset) = codes "type" ∷ name ∷ decimal offset ∷ []
+call_words (MembersAt name offset) = codes "members" ∷ name ∷ decimal offset ∷ []
+call_words (ScopeAt name offset) = codes "scope" ∷ name ∷ decimal offset ∷ []
+call_words (LinkAt name offset) = codes "link" ∷ name ∷ decimal offset ∷ []
+call_words (Structure name) = codes "structure" ∷ name ∷ []
+call_words (LoadedTyped name) = codes "typed" ∷ name ∷ []
+
+abbrev pub order_words : Order → List Bytes
+order_words (order.Call call) = call_words call
+order_words (order.Cancel k) = codes "cancel" ∷ decimal k ∷ []
+order_words order.Close = codes "close" ∷ []
+order_words (order.Wait k) = codes "wait" ∷ decimal k ∷ []
+order_words order.Idle = codes "idle" ∷ []
+
+-- `@T` under an ask, and `@N.T` under an `idle`
+abbrev pub number_word : Holder → Numbers → Bytes
+number_word holder.Ask numbers = at_sign ∷ decimal numbers.turn
+number_word holder.Idle numbers = at_sign ∷ decimal numbers.check ++ full_stop ∷ decimal numbers.turn
+
+-- Nothing stands before the order of a line of level 0.
+abbrev pub number_words : Option Holder → Line → List Bytes
+number_words None line = []
+number_words (Some above) line = number_word above (numbers_in line) ∷ []
+
+-- Two spaces for each level, and then the words.
+abbrev pub line_text : Option Holder → Line → Bytes
+line_text above line = replicate (2 * line.level) space ++ join_with_byte space (number_words above line ++ order_words line.order)

@@ -1,0 +1,27 @@
+-- A script with the texts of its paths.
+use Rattle.std.specs.Prelude.{List, map, unwrap_or}
+use Rattle.ask_history.specs.Sources.{text_of}
+use Rattle.ask_history.specs.declared.calls.Call.{Call}
+use Rattle.ask_history.specs.declared.calls.Call.TheVariants.{Reload}
+use Rattle.ask_history.specs.declared.script.Order.{Order}
+use Rattle.ask_history.specs.declared.script.Order.TheVariants as order
+use Rattle.ask_history.specs.declared.script.Line.{Line}
+use Rattle.script_text.specs.Words.{Bytes}
+
+-- the text of a path, where the sources have it, and else the path itself
+abbrev pub text_at : List (Bytes × Bytes) → Bytes → Bytes
+text_at sources path = unwrap_or (text_of sources path) path
+
+abbrev pub entry_with : List (Bytes × Bytes) → Bytes × Bytes → Bytes × Bytes
+entry_with sources entry = (entry.0, text_at sources entry.1)
+
+abbrev pub call_with : List (Bytes × Bytes) → Call → Call
+call_with sources (Reload entries) = Reload (map (entry_with sources) entries)
+call_with sources call = call
+
+abbrev pub order_with : List (Bytes × Bytes) → Order → Order
+order_with sources (order.Call call) = order.Call (call_with sources call)
+order_with sources order = order
+
+abbrev pub line_with : List (Bytes × Bytes) → Line → Line
+line_with sources line = record line { order = order_with sources line.order }

@@ -1,0 +1,4 @@
+pub mod Names
+pub mod Printed
+pub mod Transcript
+pub mod Outcomes
