@@ -1,0 +1,349 @@
+-- What a derivation of an expression has to keep beyond its tokens: where newlines stand, and what makes one reading of each text.
+use Rattle.std.specs.Prelude.{◌≡◌, Bool, true, false, not, ◌&&◌, ◌||◌, List, [], ◌∷◌, ◌++◌, codes}
+use Rattle.std.specs.List.{list_any}
+use Rattle.std.specs.Str.{bytes_eq}
+use Rattle.scan_tokens.specs.declared.tokens.TokenKind.{TokenKind}
+use Rattle.scan_tokens.specs.declared.tokens.TokenKind.TheVariants as token
+use Rattle.source_grammar.specs.Brackets.{has_newline, has_no_case, is_case_role, is_piece, role}
+use Rattle.source_grammar.specs.Comprehensions.{is_generator_pat}
+use Rattle.source_grammar.specs.Definitions.{ParList, items, OnlyLastRepeats, ProperImport, ProperMods}
+use Rattle.source_grammar.specs.Expressions.{ListKind, WithinExpr, OfProcedure, LamHead, PrefixSign, Minus, Sep, Expr, Lambda, IfThen, IfElse, WhileDo, DoThenWhile, TryAlone, TryCatch, TryFinally, TryCatchFinally, ForRound, ForCurly, ThrowOf, ReturnAlone, ReturnOf, AssignName, AssignSelect, AssignApply, InfixExpr, TypedExpr, MatchExpr, Enums, LastGen, MoreGens, Gen, GenOf, Guards, NoGuards, MoreGuards, Infix, LastPrefix, MorePrefixes, Prefix, Unsigned, Signed, Prim, LiteralPrim, MinusPrim, Placeholder, ThisPrim, SuperPrim, NamePrim, UnitPrim, ExprInParentheses, PairPrim, TriplePrim, BlockPrim, CasesPrim, NewOf, NewWith, SelectPrim, SelectHole, TypeApplyPrim, ApplyPrim, EtaPrim, Args, NoArgs, ExprArgs, BlockArg, CasesArg, ExprList, LastExpr, MoreExprs, Block, Statements, LambdaBlock, BStats, LastBStat, MoreBStats, BStat, ImportBStat, DefBStat, ExprBStat, EmptyBStat, BrokenBStat, Cases, LastCase, MoreCases, Case, CaseOf, GuardedCase, Def, ValueDef, MethodDef, ProcedureDef, AliasDef}
+use Rattle.source_grammar.specs.ExpressionTokens.{head_tokens, sep_tokens, expr_tokens, enums_tokens, gen_tokens, infix_tokens, prim_tokens, args_tokens, bstats_tokens, bstat_tokens, def_tokens}
+use Rattle.source_grammar.specs.ExpressionTrees.{bstat_built}
+use Rattle.source_grammar.specs.Lexemes.{Place, Lexeme, Arrow, arrow_token, Id}
+use Rattle.source_grammar.specs.Newlines.{IsJoined, IsNear, IsJoinedPart, IsNearPart, newline_before}
+use Rattle.source_grammar.specs.Patterns.{ProperPat}
+use Rattle.source_grammar.specs.Placeholders.{Built, free_of}
+use Rattle.source_grammar.specs.Precedence.{are_of_one_side}
+use Rattle.source_grammar.specs.Types.{WrittenType, FunOfNamed, FunOfNone, FunOfTypes, Simple, SimpleType, Named, NamedType, OfPath}
+
+-- ---- what may still follow an expression at its right end
+
+-- an `if` without `else`
+abbrev pub takes_else : Expr → Bool
+takes_else (Lambda head arrow body) = takes_else body
+takes_else (IfThen word opening test closing body) = true
+takes_else (IfElse word opening test closing body semi other rest) = takes_else rest
+takes_else (WhileDo word opening test closing body) = takes_else body
+takes_else (TryAlone word body) = takes_else body
+takes_else (TryFinally word body last end) = takes_else end
+takes_else (TryCatchFinally word body catch opening cases closing last end) = takes_else end
+takes_else (ForRound word opening enums closing yield body) = takes_else body
+takes_else (ForCurly word opening enums closing yield body) = takes_else body
+takes_else (ThrowOf word operand) = takes_else operand
+takes_else (ReturnOf word operand) = takes_else operand
+takes_else (AssignName id sign right) = takes_else right
+takes_else (AssignSelect prim point id sign right) = takes_else right
+takes_else (AssignApply prim args sign right) = takes_else right
+takes_else _ = false
+
+-- a `try` without `catch` and `finally`
+abbrev pub takes_catch : Expr → Bool
+takes_catch (Lambda head arrow body) = takes_catch body
+takes_catch (IfThen word opening test closing body) = takes_catch body
+takes_catch (IfElse word opening test closing body semi other rest) = takes_catch rest
+takes_catch (WhileDo word opening test closing body) = takes_catch body
+takes_catch (TryAlone word body) = true
+takes_catch (TryFinally word body last end) = takes_catch end
+takes_catch (TryCatchFinally word body catch opening cases closing last end) = takes_catch end
+takes_catch (ForRound word opening enums closing yield body) = takes_catch body
+takes_catch (ForCurly word opening enums closing yield body) = takes_catch body
+takes_catch (ThrowOf word operand) = takes_catch operand
+takes_catch (ReturnOf word operand) = takes_catch operand
+takes_catch (AssignName id sign right) = takes_catch right
+takes_catch (AssignSelect prim point id sign right) = takes_catch right
+takes_catch (AssignApply prim args sign right) = takes_catch right
+takes_catch _ = false
+
+-- a `try` without `finally`
+abbrev pub takes_finally : Expr → Bool
+takes_finally (Lambda head arrow body) = takes_finally body
+takes_finally (IfThen word opening test closing body) = takes_finally body
+takes_finally (IfElse word opening test closing body semi other rest) = takes_finally rest
+takes_finally (WhileDo word opening test closing body) = takes_finally body
+takes_finally (TryAlone word body) = true
+takes_finally (TryCatch word body catch opening cases closing) = true
+takes_finally (TryFinally word body last end) = takes_finally end
+takes_finally (TryCatchFinally word body catch opening cases closing last end) = takes_finally end
+takes_finally (ForRound word opening enums closing yield body) = takes_finally body
+takes_finally (ForCurly word opening enums closing yield body) = takes_finally body
+takes_finally (ThrowOf word operand) = takes_finally operand
+takes_finally (ReturnOf word operand) = takes_finally operand
+takes_finally (AssignName id sign right) = takes_finally right
+takes_finally (AssignSelect prim point id sign right) = takes_finally right
+takes_finally (AssignApply prim args sign right) = takes_finally right
+takes_finally _ = false
+
+-- a `return` without operand
+abbrev pub takes_operand : Expr → Bool
+takes_operand (Lambda head arrow body) = takes_operand body
+takes_operand (IfThen word opening test closing body) = takes_operand body
+takes_operand (IfElse word opening test closing body semi other rest) = takes_operand rest
+takes_operand (WhileDo word opening test closing body) = takes_operand body
+takes_operand (TryAlone word body) = takes_operand body
+takes_operand (TryFinally word body last end) = takes_operand end
+takes_operand (TryCatchFinally word body catch opening cases closing last end) = takes_operand end
+takes_operand (ForRound word opening enums closing yield body) = takes_operand body
+takes_operand (ForCurly word opening enums closing yield body) = takes_operand body
+takes_operand (ThrowOf word operand) = takes_operand operand
+takes_operand (ReturnAlone word) = true
+takes_operand (ReturnOf word operand) = takes_operand operand
+takes_operand (AssignName id sign right) = takes_operand right
+takes_operand (AssignSelect prim point id sign right) = takes_operand right
+takes_operand (AssignApply prim args sign right) = takes_operand right
+takes_operand _ = false
+
+-- `while` or `if` in the same line, directly behind an expression, would begin the operand of a `return` there
+abbrev pub is_apart : Sep → Place → Bool
+is_apart [] word = has_newline word.before
+is_apart (place ∷ places) word = true
+
+abbrev pub keeps_apart : Guards → Bool
+keeps_apart NoGuards = true
+keeps_apart (MoreGuards sep word test _) = is_apart sep word
+
+-- ---- `new`, and what directly follows its type
+
+-- a path at the end of the type, to which a name or type arguments can be added
+abbrev pub ends_in_path_of : NamedType → Bool
+ends_in_path_of (OfPath path) = true
+ends_in_path_of _ = false
+
+abbrev pub ends_simply_in_path : SimpleType → Bool
+ends_simply_in_path (Named named) = ends_in_path_of named
+ends_simply_in_path _ = false
+
+abbrev pub ends_in_path : WrittenType → Bool
+ends_in_path (FunOfNamed named arrow result) = ends_in_path result
+ends_in_path (FunOfNone opening closing arrow result) = ends_in_path result
+ends_in_path (FunOfTypes opening types closing arrow result) = ends_in_path result
+ends_in_path (Simple simple) = ends_simply_in_path simple
+
+-- a selection or type arguments behind it belong to the type
+abbrev pub extends_type : Prim → Bool
+extends_type (NewOf word type) = ends_in_path type
+extends_type _ = false
+
+-- Args behind it belong to the `new`
+abbrev pub takes_args : Prim → Bool
+takes_args (NewOf word type) = true
+takes_args _ = false
+
+abbrev pub is_function_type : WrittenType → Bool
+is_function_type (Simple simple) = false
+is_function_type _ = true
+
+abbrev pub is_new_function : Prim → Bool
+is_new_function (NewOf word type) = is_function_type type
+is_new_function _ = false
+
+-- ---- prefix operators
+
+abbrev pub is_prefix_id : Id → Bool
+is_prefix_id id =
+    not id.quoted && list_any (λ sign. bytes_eq sign id.name) (codes "-" ∷ codes "+" ∷ codes "!" ∷ codes "~" ∷ [])
+
+-- - + ! or ~ alone: it would be a prefix operator where what follows it can begin a Prim
+abbrev pub is_sign_alone : Prim → Bool
+is_sign_alone (NamePrim id) = is_prefix_id id
+is_sign_alone _ = false
+
+-- Args behind it are its own
+abbrev pub is_called : Prim → Args → Bool
+is_called prim args = not (takes_args prim) && (not (is_sign_alone prim) || has_newline (newline_before (args_tokens args)))
+
+abbrev pub is_hole : Prim → Bool
+is_hole (SelectHole prim point) = true
+is_hole _ = false
+
+abbrev pub prim_of : Prefix → Prim
+prim_of (Unsigned prim) = prim
+prim_of (Signed sign prim) = prim
+
+abbrev pub last_prim : Infix → Prim
+last_prim (LastPrefix prefix) = prim_of prefix
+last_prim (MorePrefixes prefix operator rest) = last_prim rest
+
+-- an identifier behind it is an operator: it is the name of no Hole, and the operand of no prefix operator
+abbrev pub is_before_operator : Prefix → Bool
+is_before_operator prefix = not (is_hole (prim_of prefix)) && not (is_sign_alone (prim_of prefix))
+
+abbrev pub is_number_kind : TokenKind → Bool
+is_number_kind token.Int = true
+is_number_kind token.Long = true
+is_number_kind _ = false
+
+abbrev pub begins_with_number : List Lexeme → Bool
+begins_with_number [] = false
+begins_with_number (x ∷ xs) = is_number_kind x.kind
+
+-- - directly before a number is part of the literal
+abbrev pub is_minus_of_number : PrefixSign → List Lexeme → Bool
+is_minus_of_number (Minus place) operand = begins_with_number operand
+is_minus_of_number _ operand = false
+
+abbrev pub infix_operators : Infix → List Id
+infix_operators (LastPrefix prefix) = []
+infix_operators (MorePrefixes prefix operator rest) = operator ∷ infix_operators rest
+
+-- ---- lists of statements
+
+abbrev pub begins_with_case : List Lexeme → Bool
+begins_with_case [] = false
+begins_with_case (x ∷ xs) = is_case_role (role x)
+
+-- the tokens do not begin with LamHead '=>'
+abbrev pub HasNoHead : List Lexeme → Type 0
+HasNoHead xs = (head : LamHead) (arrow : Arrow) (rest : List Lexeme) → xs ≡ head_tokens head ++ arrow_token arrow ∷ rest → ⊥
+
+abbrev pub is_nonempty : List Lexeme → Bool
+is_nonempty [] = false
+is_nonempty (x ∷ xs) = true
+
+-- sep stands between these: a semicolon, or a newline before what follows, where something is there that it ends
+abbrev pub is_separated : List Lexeme → Sep → List Lexeme → Bool
+is_separated front [] behind = is_nonempty front && has_newline (newline_before behind)
+is_separated front (place ∷ places) behind = true
+
+abbrev pub is_broken : BStat → Bool
+is_broken (BrokenBStat xs) = true
+is_broken _ = false
+
+-- where no expression is around a list of statements, none of them has a placeholder that no expression binds
+abbrev pub BindsAll : ListKind → List Built → Type 0
+BindsAll WithinExpr parts = Unit {0}
+BindsAll _ parts = free_of parts ≡ []
+
+-- the list of a block of a `def` in such a list
+abbrev pub within_procedure : ListKind → ListKind
+within_procedure WithinExpr = WithinExpr
+within_procedure _ = OfProcedure
+
+abbrev pub ProperParLists : List ParList → Type 0
+ProperParLists [] = Unit {0}
+ProperParLists (list ∷ lists) = IsNear list.opening × OnlyLastRepeats (items list.pars) × ProperParLists lists
+
+-- What is asked of a statement: of which kind its list is, whether it is broken, its tokens, and those behind it in its list.
+abbrev pub Rule : Type 1
+Rule = ListKind → Bool → List Lexeme → List Lexeme → Type 0
+
+module _ (rule : Rule) where
+  abbrev mutual
+    pub ProperExpr : Expr → Type 0
+    ProperExpr (Lambda head arrow body) = ProperExpr body
+    ProperExpr (IfThen word opening test closing body) = ProperExpr test × ProperExpr body
+    ProperExpr (IfElse word opening test closing body semi other rest) =
+        ProperExpr test × ProperExpr body × (takes_else body ≡ false) × ProperExpr rest
+    ProperExpr (WhileDo word opening test closing body) = ProperExpr test × ProperExpr body
+    ProperExpr (DoThenWhile word body sep until opening test closing) =
+        ProperExpr body × ((not (takes_operand body) || is_apart sep until) ≡ true) × ProperExpr test
+    ProperExpr (TryAlone word body) = ProperExpr body
+    ProperExpr (TryCatch word body catch opening cases closing) = ProperExpr body × (takes_catch body ≡ false) × ProperCases cases
+    ProperExpr (TryFinally word body last end) = ProperExpr body × (takes_finally body ≡ false) × ProperExpr end
+    ProperExpr (TryCatchFinally word body catch opening cases closing last end) =
+        ProperExpr body × (takes_catch body ≡ false) × ProperCases cases × ProperExpr end
+    ProperExpr (ForRound word opening enums closing yield body) = ProperEnums enums × ProperExpr body
+    ProperExpr (ForCurly word opening enums closing yield body) = ProperEnums enums × ProperExpr body
+    ProperExpr (ThrowOf word operand) = ProperExpr operand
+    ProperExpr (ReturnAlone word) = Unit {0}
+    ProperExpr (ReturnOf word operand) = IsJoinedPart (expr_tokens operand) × ProperExpr operand
+    ProperExpr (AssignName id sign right) = ProperExpr right
+    ProperExpr (AssignSelect prim point id sign right) = ProperPrim prim × (extends_type prim ≡ false) × ProperExpr right
+    ProperExpr (AssignApply prim args sign right) = ProperPrim prim × (is_called prim args ≡ true) × ProperArgs args × ProperExpr right
+    ProperExpr (InfixExpr chain) = ProperInfix chain × (are_of_one_side (infix_operators chain) ≡ true)
+    ProperExpr (TypedExpr chain point type) = ProperInfix chain × (are_of_one_side (infix_operators chain) ≡ true)
+    ProperExpr (MatchExpr chain word opening cases closing) =
+        ProperInfix chain × (are_of_one_side (infix_operators chain) ≡ true) × ProperCases cases
+
+    pub ProperEnums : Enums → Type 0
+    ProperEnums (LastGen gen) = ProperGen gen
+    ProperEnums (MoreGens gen sep gens) = ProperGen gen × (is_separated (gen_tokens gen) sep (enums_tokens gens) ≡ true) × ProperEnums gens
+
+    pub ProperGen : Gen → Type 0
+    ProperGen (GenOf pat arrow from guards) =
+        ProperPat pat × (is_generator_pat pat ≡ true) × ProperExpr from
+        × ((not (takes_operand from) || keeps_apart guards) ≡ true) × ProperGuards guards
+
+    pub ProperGuards : Guards → Type 0
+    ProperGuards NoGuards = Unit {0}
+    ProperGuards (MoreGuards sep word test guards) =
+        ProperInfix test × (are_of_one_side (infix_operators test) ≡ true) × ProperGuards guards
+
+    pub ProperInfix : Infix → Type 0
+    ProperInfix (LastPrefix prefix) = ProperPrefix prefix
+    ProperInfix (MorePrefixes prefix operator rest) =
+        ProperPrefix prefix × (is_before_operator prefix ≡ true) × IsJoined operator.place × IsNearPart (infix_tokens rest) × ProperInfix rest
+
+    pub ProperPrefix : Prefix → Type 0
+    ProperPrefix (Unsigned prim) = ProperPrim prim
+    ProperPrefix (Signed sign prim) =
+        ProperPrim prim × IsJoinedPart (prim_tokens prim) × (is_minus_of_number sign (prim_tokens prim) ≡ false)
+
+    pub ProperPrim : Prim → Type 0
+    ProperPrim (LiteralPrim literal) = Unit {0}
+    ProperPrim (MinusPrim sign number) = IsJoined number.place
+    ProperPrim (Placeholder place) = Unit {0}
+    ProperPrim (ThisPrim word) = Unit {0}
+    ProperPrim (SuperPrim word point id) = Unit {0}
+    ProperPrim (NamePrim id) = Unit {0}
+    ProperPrim (UnitPrim opening closing) = Unit {0}
+    ProperPrim (ExprInParentheses opening expr closing) = ProperExpr expr
+    ProperPrim (PairPrim opening a comma_1 b closing) = ProperExpr a × ProperExpr b
+    ProperPrim (TriplePrim opening a comma_1 b comma_2 c closing) = ProperExpr a × ProperExpr b × ProperExpr c
+    ProperPrim (BlockPrim opening block closing) = ProperBlock WithinExpr block
+    ProperPrim (CasesPrim opening cases closing) = ProperCases cases
+    ProperPrim (NewOf word type) = Unit {0}
+    ProperPrim (NewWith word type args) = ProperArgs args
+    ProperPrim (SelectPrim prim point id) = ProperPrim prim × (extends_type prim ≡ false)
+    ProperPrim (SelectHole prim point) = ProperPrim prim
+    ProperPrim (TypeApplyPrim prim opening types closing) = ProperPrim prim × (extends_type prim ≡ false)
+    ProperPrim (ApplyPrim prim args) = ProperPrim prim × (is_called prim args ≡ true) × ProperArgs args
+    ProperPrim (EtaPrim prim place) = ProperPrim prim × (is_sign_alone prim ≡ false) × IsJoined place
+
+    pub ProperArgs : Args → Type 0
+    ProperArgs (NoArgs opening closing) = IsJoined opening
+    ProperArgs (ExprArgs opening exprs closing) = IsJoined opening × ProperExprList exprs
+    ProperArgs (BlockArg opening block closing) = IsNear opening × ProperBlock WithinExpr block
+    ProperArgs (CasesArg opening cases closing) = IsNear opening × ProperCases cases
+
+    pub ProperExprList : ExprList → Type 0
+    ProperExprList (LastExpr expr) = ProperExpr expr
+    ProperExprList (MoreExprs expr place exprs) = ProperExpr expr × ProperExprList exprs
+
+    -- `{ case` begins cases alone, and `{ x =>` a lambda
+    pub ProperBlock : ListKind → Block → Type 0
+    ProperBlock kind (Statements stats) =
+        (begins_with_case (bstats_tokens stats) ≡ false) × HasNoHead (bstats_tokens stats) × ProperBStats kind stats
+    ProperBlock kind (LambdaBlock head arrow stats) = ProperBStats kind stats
+
+    pub ProperBStats : ListKind → BStats → Type 0
+    ProperBStats kind (LastBStat stat) = ProperBStat kind stat × rule kind (is_broken stat) (bstat_tokens stat) []
+    ProperBStats kind (MoreBStats stat sep stats) =
+        ProperBStat kind stat × rule kind (is_broken stat) (bstat_tokens stat) (sep_tokens sep ++ bstats_tokens stats)
+        × (is_separated (bstat_tokens stat) sep (bstats_tokens stats) ≡ true) × ProperBStats kind stats
+
+    pub ProperBStat : ListKind → BStat → Type 0
+    ProperBStat kind (ImportBStat i) = ProperImport i
+    ProperBStat kind (DefBStat mods def) = ProperMods mods (def_tokens def) × ProperDef kind def × BindsAll kind (bstat_built (DefBStat mods def))
+    ProperBStat kind (ExprBStat expr) = ProperExpr expr × BindsAll kind (bstat_built (ExprBStat expr))
+    ProperBStat kind EmptyBStat = Unit {0}
+    ProperBStat kind (BrokenBStat xs) = is_piece xs ≡ true
+
+    pub ProperCases : Cases → Type 0
+    ProperCases (LastCase c) = ProperCase c
+    ProperCases (MoreCases c cases) = ProperCase c × ProperCases cases
+
+    -- The list of statements ends where the next case begins. A `=>` behind the guard is that of the case.
+    pub ProperCase : Case → Type 0
+    ProperCase (CaseOf word pat arrow stats) =
+        ProperPat pat × (has_no_case [] (bstats_tokens stats) ≡ true) × ProperBStats WithinExpr stats
+    ProperCase (GuardedCase word pat guard test arrow stats) =
+        ProperPat pat × ProperInfix test × (are_of_one_side (infix_operators test) ≡ true) × (is_new_function (last_prim test) ≡ false)
+        × (has_no_case [] (bstats_tokens stats) ≡ true) × ProperBStats WithinExpr stats
+
+    pub ProperDef : ListKind → Def → Type 0
+    ProperDef kind (ValueDef word id type sign right) = ProperExpr right
+    ProperDef kind (MethodDef word id type_params lists type sign right) = ProperParLists lists × ProperExpr right
+    ProperDef kind (ProcedureDef word id type_params lists opening block closing) =
+        ProperParLists lists × IsNear opening × ProperBlock (within_procedure kind) block
+    ProperDef kind (AliasDef word id sign type) = IsJoined id.place
