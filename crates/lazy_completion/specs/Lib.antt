@@ -1,0 +1,4 @@
+pub mod Fitting
+pub mod Memo
+pub mod Typing
+pub mod Completion
