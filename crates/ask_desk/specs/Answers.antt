@@ -1,0 +1,47 @@
+-- What a history says of the answers of its calls, and of who may make which event.
+use Rattle.std.specs.Prelude.{ℕ, Bool, true, ◌&&◌, ◌||◌, ◌==◌, if◌then◌else◌, List, [], ◌∷◌, map, Option, Some, None}
+use Rattle.ask_history.specs.Journal.{settles, is_close}
+use Rattle.ask_history.specs.declared.answers.Answer.{Answer}
+use Rattle.ask_history.specs.declared.events.Event.{Event}
+use Rattle.ask_history.specs.declared.events.Event.TheVariants.{Accept, Cancel, Close, Settle, Checked}
+use Rattle.counting_word.specs.declared.view.Entry.{Entry}
+use Rattle.counting_word.specs.declared.view.Found.{Found}
+use Rattle.counting_word.specs.declared.view.Found.TheVariants.{Nothing, Answered, Problems}
+use Rattle.counting_word.specs.declared.view.Name.{Name}
+use Rattle.counting_word.specs.declared.view.View.{View}
+use Rattle.counting_word.specs.History.{engine_number}
+use Rattle.counting_word.specs.Views.{appended}
+use Rattle.counting_word.specs.Calls.{entry_of}
+
+abbrev pub found_answer : Found → Option Answer
+found_answer Nothing = None
+found_answer (Answered answer) = Some answer
+found_answer (Problems problems) = None
+
+-- the answer with which a ticket is settled
+abbrev pub answer_of : List Entry → ℕ → Option Answer
+answer_of [] ticket = None
+answer_of (entry ∷ history) ticket = if settles ticket entry.event then found_answer entry.found else answer_of history ticket
+
+-- whether this author may make an event, before the shutdown or behind it: checks are the engine's, and so are settlings
+-- before the shutdown
+abbrev pub may_make : Bool → Event → ℕ → Bool
+may_make closed (Checked file) author = author == engine_number
+may_make closed (Settle ticket mark) author = closed || (author == engine_number)
+may_make closed (Accept ticket client tag call) author = true
+may_make closed (Cancel ticket) author = true
+may_make closed Close author = true
+
+-- every event was made by one who may
+abbrev pub is_rightful : Bool → List Entry → Bool
+is_rightful closed [] = true
+is_rightful closed (entry ∷ history) = may_make closed entry.event entry.author && is_rightful (closed || is_close entry.event) history
+
+-- a view that has put these events, which found nothing, behind what it had seen
+abbrev pub written : View → List Event → View
+written view [] = view
+written view (event ∷ events) = written (appended view (entry_of view.name event Nothing)) events
+
+-- the entries of these events, in this name
+abbrev pub entries_for : Name → List Event → List Entry
+entries_for name events = map (λ event. entry_of name event Nothing) events

@@ -1,0 +1,5 @@
+pub mod Answers
+pub mod Locked
+pub mod Passes
+pub mod Results
+pub mod Facts

@@ -1,0 +1,120 @@
+//! The queue and the cells of a desk, which a pass that leads writes into the history.
+ghost use Rattle.std.specs.Prelude.{◌≡◌, ◌⊎◌, ℕ, ◌<◌, ◌≤◌, ◌+◌, ◌^◌, ◌++◌, ◌∷◌, [], length, Some, None, IsTrue, IfOk, IfErr, OnOk, OnErr, true, false, is_some, List};
+ghost use Rattle.ask_history.specs.Journal.{accepted};
+ghost use Rattle.ask_history.specs.Legal.{is_legal};
+ghost use Rattle.ask_history.specs.declared.events.Event.{Event as AnEvent};
+ghost use Rattle.ask_history.specs.declared.events.Event.TheVariants.{Accept, Cancel};
+ghost use Rattle.work_queue.specs.Reloads.{reloaded_by};
+ghost use Rattle.work_queue.specs.Refusal.{refusal};
+ghost use Rattle.work_queue.specs.Queue.{cancel_seen, cancelling};
+ghost use Rattle.counting_word.specs.History.{journal_of};
+ghost use Rattle.ask_desk.specs.Answers.{written};
+ghost use Rattle.ask_desk.specs.Locked.{IsDesk};
+ghost use Rattle.work_queue.specs.declared.limits.PostRefused.TheVariants.{NoMemory as NoRoom};
+
+use ask_history::{Call, Event};
+use counting_word::{Counter, Room, Seat};
+use response_cell::Cells;
+use std::alloc::Global;
+use work_queue::{CancelSeen, PostRefused, Queue};
+
+/// What a desk keeps: its calls, and the answers that wait.
+#[derive(Drop)]
+pub struct Books {
+    pub queue: Queue,
+    pub cells: Cells,
+}
+
+impl Books {
+    /// Accepts a call, and puts it behind the history in the name of the seat, which leads.
+    pub fn accept<B: Room>(
+        &mut self,
+        alloc: Global,
+        counter: &Counter<B>,
+        seat: &mut Seat<B>,
+        number: u64,
+        tag: u64,
+        call: Call,
+    ) -> Result<u64, (PostRefused, Call)>
+        requires few { length (reloaded_by call) < 2 ^ 32 }
+        requires leads { seat.old.leads ≡ true }
+        requires named { seat.old.name.number ≡ Some number }
+        requires desk { IsDesk self.old.queue self.old.cells seat.old.seen seat.old.name.given B.limits }
+        requires legal { IsTrue (is_legal (journal_of seat.old.seen)) }
+        ensures desk { IsDesk self.new.queue self.new.cells seat.new.seen seat.new.name.given B.limits }
+        ensures next { IfOk result (λ ticket. ticket ≡ accepted (journal_of seat.old.seen)) }
+        ensures free { OnOk result (refusal B.limits (journal_of seat.old.seen) call ≡ None) }
+        ensures ok { IfOk result (λ ticket. seat.new ≡ written seat.old (Accept ticket number tag call ∷ [])) }
+        ensures refused { IfErr result (λ back. (back.1 ≡ call) × ((back.0 ≡ NoRoom) ⊎ (refusal B.limits (journal_of seat.old.seen) call ≡ Some back.0))) }
+        ensures err { OnErr result (seat.new ≡ seat.old) }
+    {
+        let ticket = self.queue.accepted();
+        match self.cells.cover(ticket) {
+            Ok(()) => self.accept_covered(counter, seat, number, tag, call),
+            Err(_) => Err((PostRefused::NoMemory, call)),
+        }
+    }
+
+    /// The same, where the next ticket has its cell.
+    fn accept_covered<B: Room>(
+        &mut self,
+        counter: &Counter<B>,
+        seat: &mut Seat<B>,
+        number: u64,
+        tag: u64,
+        call: Call,
+    ) -> Result<u64, (PostRefused, Call)>
+        requires few { length (reloaded_by call) < 2 ^ 32 }
+        requires leads { seat.old.leads ≡ true }
+        requires named { seat.old.name.number ≡ Some number }
+        requires desk { IsDesk self.old.queue self.old.cells seat.old.seen seat.old.name.given B.limits }
+        requires covered { accepted (journal_of seat.old.seen) + 1 ≤ length self.old.cells }
+        requires legal { IsTrue (is_legal (journal_of seat.old.seen)) }
+        ensures desk { IsDesk self.new.queue self.new.cells seat.new.seen seat.new.name.given B.limits }
+        ensures next { IfOk result (λ ticket. ticket ≡ accepted (journal_of seat.old.seen)) }
+        ensures free { OnOk result (refusal B.limits (journal_of seat.old.seen) call ≡ None) }
+        ensures ok { IfOk result (λ ticket. seat.new ≡ written seat.old (Accept ticket number tag call ∷ [])) }
+        ensures refused { IfErr result (λ back. (back.1 ≡ call) × ((back.0 ≡ NoRoom) ⊎ (refusal B.limits (journal_of seat.old.seen) call ≡ Some back.0))) }
+        ensures err { OnErr result (seat.new ≡ seat.old) }
+    {
+        match self.queue.post(number, tag, call) {
+            Ok(ticket) => {
+                counter.append(seat, last_event(self.queue.journal()));
+                Ok(ticket)
+            }
+            Err(refused) => Err(refused),
+        }
+    }
+
+    /// Cancels a call, and puts the cancel behind the history in the name of the seat, which leads.
+    pub fn cancel<B: Room>(
+        &mut self,
+        counter: &Counter<B>,
+        seat: &mut Seat<B>,
+        ticket: u64,
+    ) -> CancelSeen
+        requires accepted { ticket < accepted (journal_of seat.old.seen) }
+        requires leads { seat.old.leads ≡ true }
+        requires named { IsTrue (is_some seat.old.name.number) }
+        requires desk { IsDesk self.old.queue self.old.cells seat.old.seen seat.old.name.given B.limits }
+        requires legal { IsTrue (is_legal (journal_of seat.old.seen)) }
+        ensures desk { IsDesk self.new.queue self.new.cells seat.new.seen seat.new.name.given B.limits }
+        ensures seat { seat.new ≡ written seat.old (cancelling (journal_of seat.old.seen) ticket) }
+        ensures seen { result ≡ cancel_seen (journal_of seat.old.seen) ticket }
+    {
+        let count = self.queue.journal().len();
+        let seen = self.queue.cancel(ticket);
+        if count < self.queue.journal().len() {
+            counter.append(seat, last_event(self.queue.journal()));
+            return seen;
+        }
+        seen
+    }
+}
+
+fn last_event(events: &[Event]) -> &Event
+    requires { 0 < length events.now }
+    ensures { (front : List AnEvent) (event : AnEvent) → events.now ≡ front ++ event ∷ [] → result.now ≡ event }
+{
+    &events[events.len() - 1]
+}

@@ -1,0 +1,11 @@
+//! A desk for a session's callers, over one history under a lock, counted by one word.
+#![tactic(auto)]
+
+mod books;
+mod desk;
+mod locked;
+mod pass;
+
+pub use desk::Desk;
+pub use locked::{Locked, Tried};
+pub use pass::{EnginePass, Pass, Ticket};
