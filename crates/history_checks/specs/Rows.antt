@@ -33,6 +33,14 @@ CancelAhead = printed [] (line reload_a ∷ line (Cancel 2) ∷ line (type_a 23)
     ++ codes "2\taccept\t1\t0\t2\ttype A.scala 23\n3\tsettle\t1\tdone\n"
     ++ codes "client\t0\n1\tdone\ncancel\t2\tlate\t3\n2\tnotree\nend\n"
 
+-- A cancel of the outer of two asks marks that one, and the inner one goes on.
+abbrev pub CancelOuter : Type 0
+CancelOuter = printed [] (line reload_a ∷ line (type_a 19) ∷ inner 1 0 (type_a 23) ∷ inner 2 0 (Cancel 2) ∷ []) (answer.Done ∷ answer.Cancelled ∷ answer.NoTree ∷ []) []
+    ≡ codes "journal\t7\n" ++ reloaded_a
+    ++ codes "2\taccept\t1\t0\t2\ttype A.scala 19\n3\taccept\t2\t0\t3\ttype A.scala 23\n4\tcancel\t1\n"
+    ++ codes "5\tsettle\t2\tdone\n6\tsettle\t1\tdone\n"
+    ++ codes "client\t0\n1\tdone\n2\tcancelled\n3\tnotree\ncancel\t2\tmarked\t4\nend\n"
+
 -- ---- shutdowns
 
 -- A shutdown in the innermost of three asks settles all three, the outermost first.
@@ -44,6 +52,13 @@ CloseInside = printed [] (
     ++ codes "2\taccept\t1\t0\t2\ttype A.scala 19\n3\taccept\t2\t0\t3\ttype A.scala 15\n4\taccept\t3\t0\t4\ttype A.scala 20\n"
     ++ codes "5\tclose\n6\tsettle\t1\tdone\n7\tsettle\t2\tdone\n8\tsettle\t3\tdone\n"
     ++ codes "client\t0\n1\tdone\n2\tclosed\n3\tclosed\n4\tclosed\nclose\t5\n5\trefused\tclosed\t5\nend\n"
+
+-- A cancel after a shutdown inside its ask is late: the shutdown has settled the ask.
+abbrev pub CancelAfterClose : Type 0
+CancelAfterClose = printed [] (line reload_a ∷ line (type_a 19) ∷ inner 1 0 Close ∷ inner 1 0 (Cancel 2) ∷ []) (answer.Done ∷ answer.Closed ∷ []) []
+    ≡ codes "journal\t5\n" ++ reloaded_a
+    ++ codes "2\taccept\t1\t0\t2\ttype A.scala 19\n3\tclose\n4\tsettle\t1\tdone\n"
+    ++ codes "client\t0\n1\tdone\n2\tclosed\nclose\t3\ncancel\t2\tlate\t4\nend\n"
 
 -- After a shutdown calls are refused, and so are those under them; a cancel is none; an `idle` and a second shutdown add nothing.
 abbrev pub AfterClose : Type 0

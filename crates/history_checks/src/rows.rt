@@ -5,11 +5,13 @@ pub fn rows_of_cancels()
     ensures inside { rows.CancelInside }
     ensures after { rows.CancelAfter }
     ensures ahead { rows.CancelAhead }
+    ensures outer { rows.CancelOuter }
 {}
 
 /// What the definitions say of schedules with shutdowns.
 pub fn rows_of_shutdowns()
     ensures inside { rows.CloseInside }
+    ensures cancel { rows.CancelAfterClose }
     ensures after { rows.AfterClose }
 {}
 

@@ -4,6 +4,7 @@ use super::builders::{A, B, Session, accept, calls, done, reload, type_at};
 use ask_history::{Answer, Call, Event, MemberInfo, OutlineInfo, ScopeInfo, TreeInfo};
 use pc_terms::{Code, NoMemory, Problem, Row, Span, SymKind, SymPath, SymStep, Text, TreeKind, Ty};
 use std::alloc::Global;
+use std::process::Abort;
 use std::test::Fail;
 
 // One client, whose calls these are; each is accepted and settled at once.
@@ -195,52 +196,106 @@ fn calls_and_a_tree(rt: HostRuntime) -> Result<(), Fail> {
     Ok(())
 }
 
+// What is printed of one call and its answer.
+fn printed(alloc: Global, call: Call, answer: Answer) -> Result<Text, NoMemory> {
+    let asked = vec![in alloc; call]?;
+    let answers = vec![in alloc; answer]?;
+    answered(alloc, asked, answers)?.printed(alloc)
+}
+
 #[test]
-fn answers_that_list(rt: HostRuntime) -> Result<(), Fail> {
+fn members_are_listed(rt: HostRuntime) -> Result<(), Fail> {
     let alloc = rt.alloc();
-    let file = "A.scala";
-    let asked = vec![in alloc;
-        Call::MembersAt(Text::new(alloc, file)?, 32),
-        Call::ScopeAt(Text::new(alloc, "B.scala")?, 19),
-        Call::LinkAt(Text::new(alloc, "u.scala")?, 49),
-        Call::Structure(Text::new(alloc, file)?),
-        Call::LoadedTyped(Text::new(alloc, file)?),
-    ]?;
-    let answers = vec![in alloc;
-        members(alloc)?,
-        scope(alloc)?,
-        link(alloc)?,
-        outline(alloc)?,
-        typed(alloc)?,
-    ]?;
-    let text = answered(alloc, asked, answers)?.printed(alloc)?;
+    let answer = members(alloc)?;
+    let call = Call::MembersAt(Text::new(alloc, "A.scala")?, 32);
+    let text = printed(alloc, call, answer)?;
     assert_eq!(rt;
         text.as_str(),
-        "journal\t10\n\
+        "journal\t2\n\
         0\taccept\t0\t0\t1\tmembers A.scala 32\n\
         1\tsettle\t0\tdone\n\
-        2\taccept\t1\t0\t2\tscope B.scala 19\n\
-        3\tsettle\t1\tdone\n\
-        4\taccept\t2\t0\t3\tlink u.scala 49\n\
-        5\tsettle\t2\tdone\n\
-        6\taccept\t3\t0\t4\tstructure A.scala\n\
-        7\tsettle\t3\tdone\n\
-        8\taccept\t4\t0\t5\ttyped A.scala\n\
-        9\tsettle\t4\tdone\n\
         client\t0\n\
         1\tmembers\t3\n\
         \tx\tval\tInt\tA\n\
         \ty\tval\t<error>\tA\n\
         \tarea\tdef\tInt\tgeo.Shape\n\
-        2\tscope\t3\n\
+        end\n"
+    );
+    Ok(())
+}
+
+#[test]
+fn names_in_scope_are_listed(rt: HostRuntime) -> Result<(), Fail> {
+    let alloc = rt.alloc();
+    let answer = scope(alloc)?;
+    let call = Call::ScopeAt(Text::new(alloc, "B.scala")?, 19);
+    let text = printed(alloc, call, answer)?;
+    assert_eq!(rt;
+        text.as_str(),
+        "journal\t2\n\
+        0\taccept\t0\t0\t1\tscope B.scala 19\n\
+        1\tsettle\t0\tdone\n\
+        client\t0\n\
+        1\tscope\t3\n\
         \ta\tval B.a\n\
         \tb\tval B.b\n\
         \tB\tobject B\n\
-        3\tlink\tl.scala\t18-19\tclass L1.X\n\
-        4\toutline\t2\n\
+        end\n"
+    );
+    Ok(())
+}
+
+#[test]
+fn a_definition_is_linked(rt: HostRuntime) -> Result<(), Fail> {
+    let alloc = rt.alloc();
+    let answer = link(alloc)?;
+    let call = Call::LinkAt(Text::new(alloc, "u.scala")?, 49);
+    let text = printed(alloc, call, answer)?;
+    assert_eq!(rt;
+        text.as_str(),
+        "journal\t2\n\
+        0\taccept\t0\t0\t1\tlink u.scala 49\n\
+        1\tsettle\t0\tdone\n\
+        client\t0\n\
+        1\tlink\tl.scala\t18-19\tclass L1.X\n\
+        end\n"
+    );
+    Ok(())
+}
+
+#[test]
+fn definitions_are_listed(rt: HostRuntime) -> Result<(), Fail> {
+    let alloc = rt.alloc();
+    let answer = outline(alloc)?;
+    let call = Call::Structure(Text::new(alloc, "A.scala")?);
+    let text = printed(alloc, call, answer)?;
+    assert_eq!(rt;
+        text.as_str(),
+        "journal\t2\n\
+        0\taccept\t0\t0\t1\tstructure A.scala\n\
+        1\tsettle\t0\tdone\n\
+        client\t0\n\
+        1\toutline\t2\n\
         \t0\tObjectDef\tA\t0-22\n\
         \t1\tValDef\tx\t11-20\n\
-        5\ttyped\t2\t1\n\
+        end\n"
+    );
+    Ok(())
+}
+
+#[test]
+fn a_file_is_typed_with_its_problems(rt: HostRuntime) -> Result<(), Fail> {
+    let alloc = rt.alloc();
+    let answer = typed(alloc)?;
+    let call = Call::LoadedTyped(Text::new(alloc, "A.scala")?);
+    let text = printed(alloc, call, answer)?;
+    assert_eq!(rt;
+        text.as_str(),
+        "journal\t2\n\
+        0\taccept\t0\t0\t1\ttyped A.scala\n\
+        1\tsettle\t0\tdone\n\
+        client\t0\n\
+        1\ttyped\t2\t1\n\
         \tValDef\t11-20\tInt\tval A.x\n\
         \tValDef\t22-32\t<error>\tval A.y\n\
         \t32-32\tP2\tname expected\n\
@@ -249,57 +304,41 @@ fn answers_that_list(rt: HostRuntime) -> Result<(), Fail> {
     Ok(())
 }
 
+// An ask at the start of A.scala, with this answer.
+fn agree(rt: &(impl Abort + AllocGlobal), answer: Answer, line: &str) -> Result<(), Fail> {
+    let alloc = rt.alloc();
+    let call = type_at(alloc, 0)?;
+    let text = printed(alloc, call, answer)?;
+    let before = "journal\t2\n\
+        0\taccept\t0\t0\t1\ttype A.scala 0\n\
+        1\tsettle\t0\tdone\n\
+        client\t0\n\
+        1\t";
+    assert_eq!(rt;
+        text.as_str(),
+        format!(in alloc; "{before}{line}\nend\n")?.as_str()
+    );
+    Ok(())
+}
+
 #[test]
 fn answers_of_a_word(rt: HostRuntime) -> Result<(), Fail> {
-    let alloc = rt.alloc();
+    agree(&rt, Answer::NoUnit, "nounit")?;
+    agree(&rt, Answer::NoTree, "notree")?;
+    agree(&rt, Answer::NoMembers, "nomembers")?;
+    agree(&rt, Answer::NoLink, "nolink")?;
+    agree(&rt, Answer::Unread, "unread")
+}
+
+#[test]
+fn a_tree_without_type_and_symbol(rt: HostRuntime) -> Result<(), Fail> {
     let empty = TreeInfo {
         kind: TreeKind::Unit,
         span: span(0, 0),
         ty: None,
         sym: None,
     };
-    let asked = vec![in alloc;
-        type_at(alloc, 0)?,
-        type_at(alloc, 1)?,
-        type_at(alloc, 2)?,
-        type_at(alloc, 3)?,
-        type_at(alloc, 4)?,
-        type_at(alloc, 5)?,
-    ]?;
-    let answers = vec![in alloc;
-        Answer::NoUnit,
-        Answer::NoTree,
-        Answer::NoMembers,
-        Answer::NoLink,
-        Answer::Unread,
-        Answer::Tree(empty),
-    ]?;
-    let text = answered(alloc, asked, answers)?.printed(alloc)?;
-    assert_eq!(rt;
-        text.as_str(),
-        "journal\t12\n\
-        0\taccept\t0\t0\t1\ttype A.scala 0\n\
-        1\tsettle\t0\tdone\n\
-        2\taccept\t1\t0\t2\ttype A.scala 1\n\
-        3\tsettle\t1\tdone\n\
-        4\taccept\t2\t0\t3\ttype A.scala 2\n\
-        5\tsettle\t2\tdone\n\
-        6\taccept\t3\t0\t4\ttype A.scala 3\n\
-        7\tsettle\t3\tdone\n\
-        8\taccept\t4\t0\t5\ttype A.scala 4\n\
-        9\tsettle\t4\tdone\n\
-        10\taccept\t5\t0\t6\ttype A.scala 5\n\
-        11\tsettle\t5\tdone\n\
-        client\t0\n\
-        1\tnounit\n\
-        2\tnotree\n\
-        3\tnomembers\n\
-        4\tnolink\n\
-        5\tunread\n\
-        6\ttree\tUnit\t0-0\t-\t-\n\
-        end\n"
-    );
-    Ok(())
+    agree(&rt, Answer::Tree(empty), "tree\tUnit\t0-0\t-\t-")
 }
 
 // Two checks with their rows, and a third after the last row.

@@ -13,3 +13,7 @@ returns-clause-after c = refl
 pub returns-clause-ahead : goal.returns-clause-ahead
 unfolding digits
 returns-clause-ahead c = refl
+
+pub returns-clause-outer : goal.returns-clause-outer
+unfolding digits
+returns-clause-outer c = refl

@@ -9,3 +9,7 @@ returns-clause-inside c = refl
 pub returns-clause-after : goal.returns-clause-after
 unfolding digits
 returns-clause-after c = refl
+
+pub returns-clause-cancel : goal.returns-clause-cancel
+unfolding digits
+returns-clause-cancel c = refl
