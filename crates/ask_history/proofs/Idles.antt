@@ -5,9 +5,9 @@ use Rattle.std.specs.Str.{bytes_eq}
 use Rattle.std.specs.Cmp.Lexicographic.{nat_list_eq_equiv}
 use Rattle.std.proofs.lemmas.Bool.{and_parts, and_right, not-true, not-false, not_from_true, or_left, or_right, cond-true, cond-false}
 use Rattle.std.proofs.lemmas.List.Folds.{list_any-append}
-use Rattle.ask_history.specs.Sources.{Bytes}
+use Rattle.ask_history.specs.Sources.{Bytes, some_of}
 use Rattle.ask_history.specs.Journal.{is_closed, all_settled, after, sources_step, checked, checked_step}
-use Rattle.ask_history.specs.Checks.{due, some_of, check_begins, check_done, first_checked, checks_alone}
+use Rattle.ask_history.specs.Checks.{due, check_begins, check_done, first_checked, checks_alone}
 use Rattle.ask_history.specs.declared.events.Event.{Event}
 use Rattle.ask_history.specs.declared.events.Event.TheVariants.{Checked}
 use Rattle.ask_history.proofs.Walks.{along-push}

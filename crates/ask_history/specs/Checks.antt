@@ -1,19 +1,13 @@
 -- Which files are due for a check in the background, and when one begins.
-use Rattle.std.specs.Prelude.{ℕ, zero, suc, Bool, true, false, not, ◌&&◌, if◌then◌else◌, List, [], ◌∷◌, ◌++◌, map, filter}
-use Rattle.std.specs.List.{list_any}
-use Rattle.std.specs.Str.{bytes_eq}
-use Rattle.ask_history.specs.Sources.{Bytes}
+use Rattle.std.specs.Prelude.{ℕ, zero, suc, Bool, not, ◌&&◌, if◌then◌else◌, List, [], ◌∷◌, ◌++◌}
+use Rattle.ask_history.specs.Sources.{Bytes, unchecked, some_of}
 use Rattle.ask_history.specs.Journal.{is_closed, all_settled, after, checked}
 use Rattle.ask_history.specs.declared.events.Event.{Event}
 use Rattle.ask_history.specs.declared.events.Event.TheVariants.{Checked}
 
 -- The loaded files that were not checked since a mutation last took effect, in load order.
 abbrev pub due : List Event → List Bytes
-due journal = filter (λ name. not (list_any (bytes_eq name) (checked journal))) (map (λ file. file.0) (after journal))
-
-abbrev pub some_of : List Bytes → Bool
-some_of [] = false
-some_of (name ∷ names) = true
+due journal = unchecked (checked journal) (after journal)
 
 -- A check begins where no Close stands, no ticket is open and some file is due.
 abbrev pub check_begins : List Event → Bool

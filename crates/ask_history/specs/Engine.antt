@@ -1,7 +1,9 @@
 -- What the calls of an engine do.
-use Rattle.std.specs.Prelude.{◌≡◌, ◌≢◌, ◌<◌, ◌≤◌, ⊤, ℕ, Bool, true, false, not, ◌||◌, ◌==◌, if◌then◌else◌, List, [], ◌∷◌, ◌++◌, length, filter, All, Option, Some, None}
-use Rattle.pc_terms.specs.Bytes.{max_source_bytes}
-use Rattle.ask_history.specs.Sources.{Bytes, Sources, is_mutation, mutated}
+use Rattle.std.specs.Prelude.{◌≡◌, ◌<◌, ◌≤◌, ⊤, ℕ, Bool, true, false, not, ◌&&◌, ◌||◌, ◌==◌, if◌then◌else◌, List, [], ◌∷◌, ◌++◌, length, filter, All, Option, Some, None}
+use Rattle.std.specs.List.{list_all}
+use Rattle.pc_terms.specs.Bytes.{less_sign, max_source_bytes}
+use Rattle.pc_terms.specs.declared.problems.Problem.{Problem}
+use Rattle.ask_history.specs.Sources.{Bytes, Sources, is_mutation, mutated, unchecked, some_of}
 use Rattle.ask_history.specs.declared.calls.Call.{Call}
 use Rattle.ask_history.specs.declared.calls.Call.TheVariants.{Reload, Remove, TypeAt, MembersAt, ScopeAt, LinkAt, Structure, LoadedTyped}
 use Rattle.ask_history.specs.declared.answers.Answer.{Answer}
@@ -21,6 +23,13 @@ pub record EngineState : Type 0 where
   pub asks : List (ℕ × Call)
   -- a mutation that was fed and is not yet in force, with its ticket
   pub staged : Option (ℕ × Call)
+  -- the files that were checked since a mutation last took effect, and those whose check found no memory
+  pub checked : List Bytes
+  pub skipped : List Bytes
+
+-- An engine to which nothing was fed.
+abbrev pub fresh_state : EngineState
+fresh_state = record { sources = []; asks = []; staged = None; checked = []; skipped = [] }
 
 -- ---- what a call may be asked to do
 
@@ -29,11 +38,26 @@ abbrev pub HasFileSizes : Call → Type 0
 HasFileSizes (Reload entries) = All (λ entry. length entry.1 ≤ max_source_bytes) entries
 HasFileSizes _ = ⊤
 
--- the calls that engines serve so far: reloads, and the tree at an offset
-abbrev pub is_served : Call → Bool
-is_served (Reload entries) = true
-is_served (TypeAt file offset) = true
-is_served _ = false
+-- a name that a file may have: it is not empty and does not begin with `<`, as the name of the prelude does
+abbrev pub is_file_name : Bytes → Bool
+is_file_name [] = false
+is_file_name (b ∷ bs) = not (b == less_sign)
+
+-- The file that an ask is about.
+abbrev pub asked_file : Call → Bytes
+asked_file (TypeAt file offset) = file
+asked_file (MembersAt file offset) = file
+asked_file (ScopeAt file offset) = file
+asked_file (LinkAt file offset) = file
+asked_file (Structure file) = file
+asked_file (LoadedTyped file) = file
+asked_file _ = []
+
+-- every file that a call names has a name that a file may have
+abbrev pub has_file_names : Call → Bool
+has_file_names (Reload entries) = list_all (λ entry. is_file_name entry.0) entries
+has_file_names (Remove names) = list_all is_file_name names
+has_file_names ask = is_file_name (asked_file ask)
 
 abbrev pub is_open_in : List (ℕ × Call) → ℕ → Bool
 is_open_in [] ticket = false
@@ -57,23 +81,51 @@ FeedGives old ticket call fed.NoMemory new = new ≡ old
 abbrev pub IsOnTop : List (ℕ × Call) → ℕ × Call → Type 0
 IsOnTop asks ask = (below : List (ℕ × Call)) × (asks ≡ below ++ ask ∷ [])
 
--- A turn changes no source and no open call. `Ready` answers the ask on top over the sources in force; `Safe` says that
--- its typing goes on, and lowers the number of turns that may be left; `Idle` says that no call is open. Checks in the
--- background are not served so far.
-abbrev pub TurnGives : (Sources → Call → Answer) → EngineState → Turn → ℕ → ℕ → Type 0
-TurnGives answer_of state turn.Safe left left' = (state.asks ≢ []) × (left' < left)
-TurnGives answer_of state (turn.Ready ticket found) left left' =
-    (call : Call) × IsOnTop state.asks (ticket, call) × (found ≡ answer_of state.sources call)
-TurnGives answer_of state (turn.Checked file problems) left left' = ⊥
-TurnGives answer_of state turn.Idle left left' = state.asks ≡ []
-TurnGives answer_of state (turn.NoMemory ticket) left left' = (call : Call) × IsOnTop state.asks (ticket, call)
-TurnGives answer_of state (turn.CheckNoMemory file) left left' = ⊥
+-- the ask of this ticket is on top
+abbrev pub IsTicketOnTop : List (ℕ × Call) → ℕ → Type 0
+IsTicketOnTop asks ticket = (call : Call) × IsOnTop asks (ticket, call)
+
+-- The files that a check in the background has still to come to, in load order: neither checked nor skipped.
+abbrev pub files_due : EngineState → List Bytes
+files_due state = unchecked (state.checked ++ state.skipped) state.sources
+
+-- no call is open and nothing is left to check
+abbrev pub is_idle : EngineState → Bool
+is_idle state = not (some_of state.asks || some_of (files_due state))
+
+-- No call is open, and this file is the first that is due.
+abbrev pub IsCheckOf : EngineState → Bytes → Type 0
+IsCheckOf state file = (state.asks ≡ []) × (rest : List Bytes) × (files_due state ≡ file ∷ rest)
+
+-- What a turn comes to. It changes no source and no open call.
+--   `Safe` says that the ask on top, or a check, goes on; `Idle`, that there is nothing to do.
+--   `Ready` answers the ask on top over the sources in force, and `NoMemory` names that ask.
+--   `Checked` tells the problems of the first file that is due, and that file is then checked; out of memory it is skipped.
+abbrev pub TurnGives : (Sources → Call → Answer) → (Sources → Bytes → List Problem) → EngineState → Turn → EngineState → Type 0
+TurnGives answer_of problems_of old turn.Safe new = (is_idle old ≡ false) × (new ≡ old)
+TurnGives answer_of problems_of old (turn.Ready ticket found) new =
+    ((call : Call) × IsOnTop old.asks (ticket, call) × (found ≡ answer_of old.sources call)) × (new ≡ old)
+TurnGives answer_of problems_of old (turn.Checked file problems) new =
+    IsCheckOf old file × (problems ≡ problems_of old.sources file) × (new ≡ record old { checked = old.checked ++ file ∷ [] })
+TurnGives answer_of problems_of old turn.Idle new = (is_idle old ≡ true) × (new ≡ old)
+TurnGives answer_of problems_of old (turn.NoMemory ticket) new = IsTicketOnTop old.asks ticket × (new ≡ old)
+TurnGives answer_of problems_of old (turn.CheckNoMemory file) new =
+    IsCheckOf old file × (new ≡ record old { skipped = old.skipped ++ file ∷ [] })
+
+-- a turn that answers `Safe` lowers the number of those that may be left
+abbrev pub Lowers : Turn → ℕ → ℕ → Type 0
+Lowers turn.Safe before now = now < before
+Lowers _ before now = ⊤
+
+-- a mutation put in force: nothing is checked yet of the new sources
+abbrev pub in_force : EngineState → Call → EngineState
+in_force old mutation = record old { sources = mutated old.sources mutation; staged = None; checked = []; skipped = [] }
 
 -- the staged mutation put in force, or dropped
 abbrev pub mutation_settled : EngineState → Effect → Option (ℕ × Call) → EngineState
-mutation_settled old effect None = old
-mutation_settled old Applies (Some mutation) = record old { sources = mutated old.sources mutation.1; staged = None }
+mutation_settled old Applies (Some mutation) = in_force old mutation.1
 mutation_settled old Dropped (Some mutation) = record old { staged = None }
+mutation_settled old effect None = old
 
 -- the open asks without that of this ticket
 abbrev pub ask_settled : EngineState → ℕ → EngineState
@@ -87,37 +139,25 @@ settled_state old ticket effect = if is_staged old.staged ticket then mutation_s
 abbrev pub stopped_state : EngineState → EngineState
 stopped_state old = record old { asks = [] }
 
--- An engine to which nothing was fed.
-abbrev pub fresh_state : EngineState
-fresh_state = record { sources = []; asks = []; staged = None }
-
 -- ---- answers
+
+abbrev pub has_offset : Call → Bool
+has_offset (TypeAt file offset) = true
+has_offset (MembersAt file offset) = true
+has_offset (ScopeAt file offset) = true
+has_offset (LinkAt file offset) = true
+has_offset _ = false
 
 -- The answers that an engine may find for an ask whose file is loaded.
 abbrev pub can_find : Call → Answer → Bool
-can_find call answer.Done = false
 can_find (TypeAt file offset) (answer.Tree tree) = true
 can_find (MembersAt file offset) (answer.Members members) = true
+can_find (MembersAt file offset) answer.NoMembers = true
 can_find (ScopeAt file offset) (answer.Scope names) = true
 can_find (LinkAt file offset) (answer.Link where_ span sym) = true
+can_find (LinkAt file offset) answer.NoLink = true
 can_find (Structure file) (answer.Outline definitions) = true
 can_find (LoadedTyped file) (answer.Loaded definitions problems) = true
-can_find (TypeAt file offset) answer.NoTree = true
-can_find (MembersAt file offset) answer.NoTree = true
-can_find (ScopeAt file offset) answer.NoTree = true
-can_find (LinkAt file offset) answer.NoTree = true
-can_find (MembersAt file offset) answer.NoMembers = true
-can_find (LinkAt file offset) answer.NoLink = true
+can_find call answer.NoTree = has_offset call
 can_find call answer.Unread = true
 can_find call found = false
-
--- The file that an ask is about.
-abbrev pub asked_file : Call → Bytes
-asked_file (Reload entries) = []
-asked_file (Remove names) = []
-asked_file (TypeAt file offset) = file
-asked_file (MembersAt file offset) = file
-asked_file (ScopeAt file offset) = file
-asked_file (LinkAt file offset) = file
-asked_file (Structure file) = file
-asked_file (LoadedTyped file) = file

@@ -3,6 +3,7 @@
 use Rattle.std.specs.Prelude.{ℕ, Bool, true, false, not, ◌&&◌, if◌then◌else◌, ◌==◌, List, [], ◌∷◌, ◌++◌, count_by, Option, Some, None, is_some, is_none, unwrap_or}
 use Rattle.std.specs.List.{list_any, list_all}
 use Rattle.std.specs.Option.{option_or}
+use Rattle.pc_terms.specs.declared.problems.Problem.{Problem}
 use Rattle.ask_history.specs.Sources.{Bytes, Sources, is_mutation, mutated}
 use Rattle.ask_history.specs.Walk.{along}
 use Rattle.ask_history.specs.declared.calls.Call.{Call}
@@ -160,3 +161,15 @@ replies_to answer_of journal (t ∷ ts) = onto (reply_in answer_of journal t) (r
 -- The answers of the settled calls of a journal, in the order in which they were accepted.
 abbrev pub replies : (Sources → Call → Answer) → List Event → List Answer
 replies answer_of journal = replies_to answer_of journal (tickets journal)
+
+-- ---- checks
+
+-- what an event adds to what was found, after the events before it
+abbrev pub finding_step : (Sources → Bytes → List Problem) → List Event → List (Bytes × List Problem) → Event → List (Bytes × List Problem)
+finding_step problems_of before found (Checked file) = found ++ (file, problems_of (after before) file) ∷ []
+finding_step problems_of before found _ = found
+
+-- The checked files of a journal in order, each with its problems over the sources in force there. `problems_of` says what
+-- the problems of a file are over given sources.
+abbrev pub findings : (Sources → Bytes → List Problem) → List Event → List (Bytes × List Problem)
+findings problems_of journal = along (finding_step problems_of) [] journal

@@ -1,5 +1,5 @@
 -- The sources that are loaded, and what a mutation does to them.
-use Rattle.std.specs.Prelude.{Bool, true, false, not, if◌then◌else◌, List, [], ◌∷◌, filter, Option, Some, None}
+use Rattle.std.specs.Prelude.{Bool, true, false, not, if◌then◌else◌, List, [], ◌∷◌, map, filter, Option, Some, None}
 use Rattle.std.specs.List.{list_any}
 use Rattle.std.specs.Str.{bytes_eq}
 pub use Rattle.pc_terms.specs.Bytes.{Bytes}
@@ -44,3 +44,11 @@ abbrev pub mutated : Sources → Call → Sources
 mutated files (Reload entries) = reloaded files entries
 mutated files (Remove names) = removed files names
 mutated files _ = files
+
+abbrev pub some_of : {A : Type 0} → List A → Bool
+some_of [] = false
+some_of (x ∷ xs) = true
+
+-- The loaded files that are none of these, in load order.
+abbrev pub unchecked : List Bytes → Sources → List Bytes
+unchecked checked files = filter (λ name. not (list_any (bytes_eq name) checked)) (map (λ file. file.0) files)

@@ -1,4 +1,6 @@
 ghost use Rattle.std.specs.Prelude.{◌≡◌, ◌<◌, ◌≤◌, ◌^◌, ◌||◌, ℕ, Bool, true, false, not, List, [], length, Option, Some, None, IsTrue};
+ghost use Rattle.pc_terms.specs.Problems.{AreListed};
+ghost use Rattle.pc_terms.specs.declared.problems.Problem.{Problem as ProblemSeen};
 ghost use Rattle.ask_history.specs.declared.calls.Call.{Call};
 ghost use Rattle.ask_history.specs.declared.answers.Answer.{Answer};
 ghost use Rattle.ask_history.specs.declared.answers.Answer.TheVariants.{NoUnit};
@@ -27,26 +29,27 @@ pub enum Effect {
 /// What a turn of an engine came to.
 #[derive(Debug, Drop)]
 pub enum Turn {
-    /// A tree was typed, and the work on top goes on.
+    /// A tree was typed, and the ask on top, or the check, goes on.
     Safe,
     /// The call of this ticket, on top, has this answer for the sources in force. It stays on top.
     Ready(u64, Answer),
-    /// No call is open, and the problems of the first file that was not yet checked are these.
+    /// No call is open, and the first file that was due for a check has these problems. It is checked now.
     Checked(Text, Row<Problem>),
     /// No call is open, and there is nothing to check.
     Idle,
     /// Memory could not be had for the call on top.
     NoMemory(u64),
-    /// Memory could not be had for the check of this file.
+    /// No call is open, and memory could not be had for the check of this file, the first that was due. It is skipped.
     CheckNoMemory(Text),
 }
 
-/// What types: it holds sources, is fed calls, and works on the topmost ask, a turn at a time.
+/// What types: it holds sources, is fed calls, and works on the topmost ask, a turn at a time. Where no call is open it checks
+/// the loaded files, one after another.
 pub trait Engine {
     ghost use Rattle.ask_history.specs.Sources.{Sources, mutated, is_mutation, is_loaded};
-    ghost use Rattle.ask_history.specs.Engine.{EngineState, HasFileSizes, is_served, is_open_in, is_staged, FeedGives, TurnGives, settled_state, stopped_state, can_find, asked_file};
+    ghost use Rattle.ask_history.specs.Engine.{EngineState, HasFileSizes, has_file_names, is_open_in, is_staged, FeedGives, TurnGives, Lowers, settled_state, stopped_state, can_find, asked_file};
 
-    /// Its sources, its open asks, and what is staged.
+    /// Its sources, its open asks, what is staged, and the files that were checked or skipped.
     ghost state: { Self → EngineState };
 
     /// A number that every `Safe` lowers.
@@ -55,21 +58,24 @@ pub trait Engine {
     /// What an ask is answered over given sources. It does not depend on the engine's state.
     ghost answer_of: { Sources → Call → Answer };
 
+    /// The problems of a file over given sources. They do not depend on the engine's state.
+    ghost problems_of: { Sources → List ℕ → List ProblemSeen };
+
     /// Takes an ask on top of the open ones, or stages a mutation.
     fn feed(&mut self, ticket: u64, call: &Call) -> Fed
         requires nothing_staged { (state self.old).staged ≡ None }
-        requires alone { (state self.old).asks ≡ [] }
-        requires served { is_served call.now ≡ true }
+        requires new_ticket { is_open_in (state self.old).asks ticket ≡ false }
         requires sizes { HasFileSizes call.now }
+        requires names { has_file_names call.now ≡ true }
         requires few { length (mutated (state self.old).sources call.now) < 2 ^ 31 }
         ensures { FeedGives (state self.old) ticket call.now result (state self.new) };
 
-    /// Works on the topmost ask, on at most `steps` trees.
+    /// Works on the topmost ask, or else on a check, on at most `steps` trees.
     fn turn(&mut self, steps: u64) -> Turn
         requires some { 1 ≤ steps }
         requires nothing_staged { (state self.old).staged ≡ None }
-        ensures state { state self.new ≡ state self.old }
-        ensures gives { TurnGives answer_of (state self.old) result (left self.old) (left self.new) };
+        ensures gives { TurnGives answer_of problems_of (state self.old) result (state self.new) }
+        ensures lowers { Lowers result (left self.old) (left self.new) };
 
     /// Puts a staged mutation in force or drops it, or takes an open ask off. It takes no memory.
     fn settled(&mut self, ticket: u64, effect: Effect)
@@ -84,4 +90,7 @@ pub trait Engine {
     ghost fits: { (sources : Sources) (call : Call) → is_mutation call ≡ false
         → (is_loaded sources (asked_file call) ≡ false → answer_of sources call ≡ NoUnit)
         × (is_loaded sources (asked_file call) ≡ true → can_find call (answer_of sources call) ≡ true) };
+
+    /// The problems of a file are in their order, and each is there once.
+    ghost listed: { (sources : Sources) (file : List ℕ) → AreListed (problems_of sources file) };
 }
