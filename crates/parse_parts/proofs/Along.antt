@@ -1,10 +1,10 @@
 -- The tokens of a derivation lead the machine from where a type may begin to where this type was read, whatever stands around it and behind it.
-use Rattle.std.proofs.Common.{◌≡◌, true, false, List, [], ◌∷◌, ◌++◌, Option, Some, None, refl, ap, sym, ◌∙◌, append_assoc, append-nil}
+use Rattle.std.proofs.Common.{◌≡◌, List, [], ◌∷◌, ◌++◌, Some, None, refl, ap, sym, ◌∙◌, append_assoc, append-nil}
 use Rattle.reading_machines.specs.Machines.{run, onward}
 use Rattle.source_grammar.specs.Lexemes.{Place, Lexeme, open_round, close_round, open_square, close_square, comma, dot, Arrow, arrow_token, Id, id_token, Step, QualId, steps_tokens, qual_id_tokens}
 use Rattle.source_grammar.specs.Types.{WrittenType, SimpleType, NamedType, TypeList, FunOfNamed, FunOfNone, FunOfTypes, Simple, Named, InParentheses, Pair, Triple, OfPath, Applied, Singleton, LastType, MoreTypes, type_tokens, simple_tokens, named_tokens, type_list_tokens}
-use Rattle.parse_parts.proofs.Seen.{Seen, AnId, AnArrow, seen, seen-id, seen-arrow}
-use Rattle.parse_parts.proofs.Derived.{Head, NamedHead, NoneHead, TypesHead, Spot, Begin, AtPath, AtDot, AtNamed, AtNone, AtTypes, Bracket, Round, Square, Done, Frame, State, fun_of, settled, listed, in_round, simple_of, head_of, longer, named_on, pushed, parted, filled, round_within, square_closed, moved, step}
+use Rattle.parse_parts.proofs.Seen.{seen-id, seen-arrow}
+use Rattle.parse_parts.proofs.Derived.{Head, NamedHead, NoneHead, TypesHead, Spot, Begin, AtPath, AtDot, AtNamed, AtNone, AtTypes, Bracket, Round, Square, Done, Frame, State, settled, listed, simple_of, head_of, named_on, pushed, parted, filled, round_within, square_closed, moved, step}
 
 abbrev pub at : List Frame → List Head → Spot → State
 at fs hs spot = record { frames = fs; heads = hs; spot = spot }

@@ -1,24 +1,21 @@
 -- What the reader answers, in the words of the grammar.
-use Rattle.std.proofs.Common.{◌≡◌, ℕ, ◌+◌, ◌<◌, ◌≤◌, Bool, true, false, ◌&&◌, nat_le, List, [], ◌∷◌, take, map, Option, Some, None, refl, ap, sym, ◌∙◌, arith}
+use Rattle.std.proofs.Common.{◌≡◌, ◌<◌, ◌≤◌, Bool, true, false, nat_le, List, [], ◌∷◌, Option, Some, None, refl, ap}
 use Rattle.reading_machines.specs.Machines.{run, reading, reading_of}
-use Rattle.reading_machines.specs.Parts.{anything, IsLongest}
-use Rattle.reading_machines.proofs.Images.{pictured, reading-pictured, reading-through}
-use Rattle.reading_machines.proofs.Longest.{reads-longest, reads-stuck, best-runs}
+use Rattle.reading_machines.specs.Parts.{anything}
+use Rattle.reading_machines.proofs.Images.{pictured, reading-pictured}
 use Rattle.positioned_trees.specs.Trees.{height}
 use Rattle.positioned_trees.specs.declared.trees.Tree.{Tree}
 use Rattle.source_grammar.specs.Lexemes.{Lexeme}
-use Rattle.source_grammar.specs.Types.{WrittenType, Simple, type_tree, IsType}
+use Rattle.source_grammar.specs.Types.{type_tree, IsType}
 use Rattle.parse_parts.specs.declared.built.Tall.{Tall}
 use Rattle.parse_parts.specs.Built.{max_height}
-use Rattle.parse_parts.specs.Parting.{IsSomeType}
 use Rattle.parse_parts.specs.Reading.{begun, reader}
 use Rattle.parse_parts.specs.Steps.{type_at}
 use Rattle.parse_parts.proofs.Derived as derived
-use Rattle.parse_parts.proofs.Exact.{reads-types}
 use Rattle.parse_parts.proofs.Kept.{keep, kept, le-is, le-not}
 use Rattle.parse_parts.proofs.Moves.{whole-same, step-same}
 use Rattle.parse_parts.proofs.Shown.{shown, type-shown}
-use Rattle.parse_parts.proofs.Sound.{Whole, whole-is, type_read, whole-tokens}
+use Rattle.parse_parts.proofs.Sound.{whole-is, type_read, whole-tokens}
 
 reader-whole : (s : derived.State) → (reader).whole (shown s) ≡ derived.whole_at s.frames s.spot
 reader-whole s = go s.frames where

@@ -1,5 +1,5 @@
 -- The words of the tokens of a text can be cut out of it, and there are no more tokens than bytes.
-use Rattle.std.proofs.Common.{◌≡◌, ℕ, zero, suc, ◌+◌, ◌-◌, ◌≤◌, Bool, true, false, ◌&&◌, if◌then◌else◌, List, [], ◌∷◌, ◌++◌, length, Option, Some, None, ◌⊎◌, encode_utf8_all, refl, ap, sym, ◌∙◌, subst, arith, length-append, append_assoc}
+use Rattle.std.proofs.Common.{◌≡◌, ℕ, zero, suc, ◌+◌, ◌-◌, ◌≤◌, Bool, true, false, ◌&&◌, if◌then◌else◌, List, [], ◌∷◌, ◌++◌, length, Option, Some, None, encode_utf8_all, refl, ap, sym, ◌∙◌, subst, arith, length-append, append_assoc}
 use Rattle.std.specs.List.{All, flat_map}
 use Rattle.std.specs.Str.{chars, IsUtf8, IsCharBoundary}
 use Rattle.std.proofs.Math.Utf8.{scalar, scalars, encode}
@@ -15,7 +15,7 @@ use Rattle.scan_tokens.specs.declared.tokens.TokenKind.{TokenKind}
 use Rattle.scan_tokens.specs.declared.tokens.TokenKind.TheVariants as kind
 use Rattle.scan_tokens.specs.Characters.{Chars, byte_len, offset}
 use Rattle.scan_tokens.specs.Division.{Fits, IsBackquoted}
-use Rattle.scan_tokens.specs.Kinds.{is_reserved_word, is_reserved_sign, name_kind, is_whole, has_suffix, number_kind, kind_of}
+use Rattle.scan_tokens.specs.Kinds.{is_reserved_word, is_reserved_sign, name_kind, has_suffix, number_kind, kind_of}
 use Rattle.scan_tokens.specs.Newlines.{role_at, template_follows, can_end, turned, marked}
 use Rattle.scan_tokens.specs.Pieces.{piece_at, pieces_within, pieces, bytes_of, span_of, token_at, token_of, tokens_in}
 use Rattle.scan_tokens.specs.Reading.{read}

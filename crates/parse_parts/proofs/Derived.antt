@@ -1,7 +1,7 @@
 -- The machine that reads types, over the derivations that the tokens so far are parts of.
 use Rattle.std.proofs.Common.{Bool, true, false, List, [], ◌∷◌, ◌++◌, Option, Some, None}
 use Rattle.reading_machines.specs.Machines.{Machine}
-use Rattle.source_grammar.specs.Lexemes.{Place, Lexeme, open_round, close_round, open_square, comma, dot, Arrow, arrow_token, Id, Step, QualId, qual_id_tokens}
+use Rattle.source_grammar.specs.Lexemes.{Place, Lexeme, open_round, close_round, open_square, comma, dot, Arrow, arrow_token, Id, QualId, qual_id_tokens}
 use Rattle.source_grammar.specs.Types.{WrittenType, SimpleType, NamedType, TypeList, FunOfNamed, FunOfNone, FunOfTypes, Simple, Named, InParentheses, Pair, Triple, OfPath, Applied, Singleton, LastType, MoreTypes, type_tokens, named_tokens, type_list_tokens}
 use Rattle.parse_parts.proofs.Seen.{Seen, AnId, OpensRound, ClosesRound, OpensSquare, ClosesSquare, AComma, ADot, AnArrow, ATypeWord, Another, seen}
 

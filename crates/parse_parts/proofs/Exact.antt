@@ -1,17 +1,15 @@
 -- The machine reads exactly the types, and each of its states can still become one.
-use Rattle.std.proofs.Common.{◌≡◌, true, false, List, [], ◌∷◌, ◌++◌, Option, Some, None, refl, ap, sym, ◌∙◌, append_assoc, append-nil}
-use Rattle.pc_terms.specs.declared.problems.Span.{Span}
+use Rattle.std.proofs.Common.{◌≡◌, true, false, List, [], ◌∷◌, ◌++◌, Some, None, refl, ap, sym, ◌∙◌, append-nil}
 use Rattle.scan_tokens.specs.declared.tokens.Newline.TheVariants.{No}
 use Rattle.reading_machines.specs.Machines.{run, onward}
 use Rattle.reading_machines.specs.Parts.{CanBegin}
 use Rattle.reading_machines.specs.Laws.{ReadsExactly}
 use Rattle.reading_machines.proofs.Runs.{run-append}
-use Rattle.positioned_trees.specs.declared.trees.Tree.{Tree}
 use Rattle.source_grammar.specs.Lexemes.{Place, Lexeme, close_round, close_square, Arrow, arrow_token, Id, id_token, QualId}
-use Rattle.source_grammar.specs.Types.{WrittenType, SimpleType, Simple, Named, OfPath, Applied, LastType, type_tokens, type_tree, IsType}
+use Rattle.source_grammar.specs.Types.{WrittenType, Simple, Named, OfPath, Applied, LastType, type_tokens, type_tree}
 use Rattle.parse_parts.specs.Parting.{IsSomeType}
 use Rattle.parse_parts.proofs.Derived.{Head, NamedHead, NoneHead, TypesHead, Spot, Begin, AtPath, AtDot, AtNamed, AtNone, AtTypes, Bracket, Round, Square, Frame, State, settled, listed, simple_of, longer, step, is_some, whole_at, machine}
-use Rattle.parse_parts.proofs.Sound.{Whole, whole-is, type_read, whole-tokens}
+use Rattle.parse_parts.proofs.Sound.{whole-is, type_read, whole-tokens}
 use Rattle.parse_parts.proofs.Along.{at, Leads, leads-none, leads-then, leads-on, leads-one, id-step, arrow-head, last_simple, heads_of, simple-there, settled-there, after, type-along}
 
 pub type-runs : (d : WrittenType) (xs : List Lexeme) → xs ≡ type_tokens d → run step xs (machine).start ≡ Some (after [] [] d)

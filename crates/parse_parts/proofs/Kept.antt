@@ -1,6 +1,6 @@
 -- Trees as far as they are kept.
 use Rattle.std.proofs.Common.{◌≡◌, ℕ, ◌+◌, ◌<◌, ◌≤◌, max, nat_le, nat_lt, Bool, true, false, if◌then◌else◌, List, [], ◌∷◌, ◌++◌, Option, Some, None, refl, ap, sym, ◌∙◌, arith}
-use Rattle.std.proofs.lemmas.Bool.Decides.{leb_tells, nat_tests}
+use Rattle.std.proofs.lemmas.Bool.Decides.{nat_tests}
 use Rattle.pc_terms.specs.declared.problems.Span.{Span}
 use Rattle.pc_terms.specs.declared.tree_kinds.TreeKind.{TreeKind}
 use Rattle.scan_tokens.specs.Words.{Bytes}
@@ -10,7 +10,7 @@ use Rattle.positioned_trees.proofs.Heights.{height-roll, highest-push}
 use Rattle.source_grammar.specs.Spans.{labelled}
 use Rattle.parse_parts.specs.declared.built.Kids.{Kids}
 use Rattle.parse_parts.specs.declared.built.Tall.{Tall}
-use Rattle.parse_parts.specs.Built.{max_height, last, tall_of, only, no_kids, joined, alone, node}
+use Rattle.parse_parts.specs.Built.{max_height, last, only, joined, alone, node}
 
 pub last-append : (ts : List Tree) (t : Tree) → last (ts ++ t ∷ []) ≡ Some t
 last-append [] t = refl

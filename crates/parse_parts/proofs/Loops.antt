@@ -1,5 +1,5 @@
 -- The loop of the reader over the tokens.
-use Rattle.std.proofs.Common.{◌≡◌, ℕ, ◌+◌, ◌<◌, Bool, true, false, ◌&&◌, if◌then◌else◌, List, [], ◌∷◌, length, get_or, map, drop, drop-cons, add-one, Option, Some, None, refl, ap, sym, ◌∙◌}
+use Rattle.std.proofs.Common.{◌≡◌, ℕ, ◌+◌, ◌<◌, Bool, true, false, ◌&&◌, if◌then◌else◌, List, ◌∷◌, length, get_or, map, drop, drop-cons, add-one, Option, Some, None, refl, ap, sym, ◌∙◌}
 use Rattle.scan_tokens.specs.declared.tokens.Token.{Token}
 use Rattle.scan_tokens.specs.Words.{Bytes}
 use Rattle.source_grammar.specs.Lexemes.{lexeme_of, word_of, bytes_in}

@@ -1,11 +1,11 @@
 -- A step of the reader is a step of the machine, with its trees as far as these are kept.
-use Rattle.std.proofs.Common.{◌≡◌, ℕ, Bool, true, false, ◌&&◌, if◌then◌else◌, List, [], ◌∷◌, ◌++◌, map, Option, Some, None, option_map, refl, ap, sym, ◌∙◌, append_assoc}
+use Rattle.std.proofs.Common.{◌≡◌, Bool, true, false, ◌&&◌, if◌then◌else◌, List, [], ◌∷◌, ◌++◌, map, Option, Some, None, option_map, refl, ap, sym, ◌∙◌, append_assoc}
 use Rattle.pc_terms.specs.declared.tree_kinds.TreeKind.TheVariants as kind
 use Rattle.positioned_trees.specs.declared.trees.Tree.{Tree}
-use Rattle.positioned_trees.specs.declared.trees.Tree.TheViews.{out-Tree, roll-Tree, out-roll-Tree}
+use Rattle.positioned_trees.specs.declared.trees.Tree.TheViews.{out-Tree, out-roll-Tree}
 use Rattle.source_grammar.specs.Lexemes.{Place, Lexeme, Arrow, Id, QualId}
 use Rattle.source_grammar.specs.Spans.{labelled}
-use Rattle.source_grammar.specs.Types.{WrittenType, SimpleType, NamedType, TypeList, Simple, Named, OfPath, Applied, Singleton, LastType, MoreTypes, type_tree, named_tree, type_list_trees, path_tree, path_type_tree, applied_tree, last_id}
+use Rattle.source_grammar.specs.Types.{SimpleType, TypeList, Simple, LastType, MoreTypes, type_tree, named_tree, type_list_trees, path_tree, path_type_tree, applied_tree, last_id}
 use Rattle.parse_parts.specs.declared.states.Count.{Count}
 use Rattle.parse_parts.specs.declared.states.Count.TheVariants as count
 use Rattle.parse_parts.specs.declared.states.Spot.TheVariants as spot
@@ -20,9 +20,9 @@ use Rattle.parse_parts.specs.Reading.{stepped}
 use Rattle.parse_parts.proofs.Derived as derived
 use Rattle.std.specs.Str.{bytes_eq}
 use Rattle.scan_tokens.specs.Words.{double_arrow}
-use Rattle.parse_parts.proofs.Seen.{seen, seen_as, is_quoted}
+use Rattle.parse_parts.proofs.Seen.{seen_as, is_quoted}
 use Rattle.parse_parts.proofs.Kept.{kept, kept_all, joined-kept, alone-kept, node-kept}
-use Rattle.parse_parts.proofs.Shown.{count_of, counted, counted-listed, counted-next, done_trees, listed-trees, first_id, path_shown, path-term, path-type, path-type-node, longer-shown, spot_shown, head_shown, bracket_shown, bracket_trees, frame_shown, shown, type-shown}
+use Rattle.parse_parts.proofs.Shown.{count_of, counted, counted-listed, counted-next, done_trees, listed-trees, first_id, path-term, path-type, path-type-node, longer-shown, spot_shown, head_shown, bracket_shown, bracket_trees, frame_shown, shown, type-shown}
 
 -- the reader admits what the machine does, and goes where it goes
 abbrev pub met : Bool → State → Option State

@@ -8,7 +8,7 @@ use Rattle.reading_machines.proofs.Longest.{started-far, reads-longest, reads-st
 use Rattle.positioned_trees.specs.Trees.{height, numbered, max_number}
 use Rattle.positioned_trees.specs.declared.trees.Tree.{Tree}
 use Rattle.source_grammar.specs.Lexemes.{Lexeme}
-use Rattle.source_grammar.specs.Reading.{CanBegin, IsLongestPart, IsRead, IsNotHere, IsTooHigh}
+use Rattle.source_grammar.specs.Reading.{IsLongestPart, IsRead, IsNotHere, IsTooHigh}
 use Rattle.source_grammar.specs.Types.{type_tree, type_tokens, IsType}
 use Rattle.parse_parts.specs.declared.built.Tall.{Tall}
 use Rattle.parse_parts.specs.declared.states.State.{State}

@@ -3,14 +3,13 @@ use Rattle.std.proofs.Common.{◌≡◌, ℕ, ◌+◌, ◌-◌, ◌≤◌, List,
 use Rattle.std.proofs.Math.Seq.{take-length}
 use Rattle.std.specs.List.{All}
 use Rattle.std.specs.Str.{IsUtf8}
-use Rattle.std.proofs.lemmas.List.{drop-map, take-map, length-map}
+use Rattle.std.proofs.lemmas.List.{drop-map, length-map}
 use Rattle.std.proofs.lemmas.List.Elements.{All-drop}
 use Rattle.reading_machines.specs.Machines.{reading_of}
 use Rattle.reading_machines.specs.Parts.{anything}
 use Rattle.reading_machines.proofs.Longest.{started-far}
 use Rattle.pc_terms.specs.Bytes.{max_source_bytes}
 use Rattle.positioned_trees.specs.Trees.{numbered, max_number}
-use Rattle.positioned_trees.specs.declared.trees.Tree.{Tree}
 use Rattle.scan_tokens.specs.declared.tokens.Token.{Token}
 use Rattle.scan_tokens.specs.declared.tokens.Tokens.{Tokens}
 use Rattle.scan_tokens.specs.Scanned.{scanned}
@@ -20,7 +19,7 @@ use Rattle.source_grammar.specs.Reading.{IsRead, IsNotHere, IsTooHigh}
 use Rattle.source_grammar.specs.Types.{IsType}
 use Rattle.parse_parts.specs.declared.built.Tall.{Tall}
 use Rattle.parse_parts.specs.declared.parts.Part.{Part}
-use Rattle.parse_parts.specs.declared.parts.Part.TheVariants.{Read, NotHere, TooHigh}
+use Rattle.parse_parts.specs.declared.parts.Part.TheVariants.{NotHere}
 use Rattle.parse_parts.specs.declared.states.State.{State}
 use Rattle.parse_parts.specs.Parting.{IsTypeAt, part_of}
 use Rattle.parse_parts.specs.Reading.{reader}

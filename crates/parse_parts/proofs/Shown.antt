@@ -1,13 +1,11 @@
 -- The reader's state is the machine's, with the trees of its derivations as far as these are kept.
-use Rattle.std.proofs.Common.{◌≡◌, ℕ, Bool, true, false, if◌then◌else◌, List, [], ◌∷◌, ◌++◌, map, Option, Some, None, refl, ap, sym, ◌∙◌, append_assoc, append-nil}
-use Rattle.pc_terms.specs.declared.problems.Span.{Span}
-use Rattle.pc_terms.specs.declared.tree_kinds.TreeKind.{TreeKind}
+use Rattle.std.proofs.Common.{◌≡◌, ℕ, Bool, true, false, if◌then◌else◌, List, [], ◌∷◌, ◌++◌, map, Some, refl, ap, sym, ◌∙◌, append_assoc}
 use Rattle.pc_terms.specs.declared.tree_kinds.TreeKind.TheVariants as kind
 use Rattle.positioned_trees.specs.declared.trees.Tree.{Tree}
-use Rattle.positioned_trees.specs.declared.trees.Tree.TheViews.{out-Tree, roll-Tree, out-roll-Tree}
-use Rattle.source_grammar.specs.Lexemes.{Place, Lexeme, open_round, close_round, arrow_token, Arrow, Id, id_token, Step, QualId, steps_tokens, qual_id_tokens}
+use Rattle.positioned_trees.specs.declared.trees.Tree.TheViews.{out-Tree, out-roll-Tree}
+use Rattle.source_grammar.specs.Lexemes.{Place, Lexeme, open_round, Id, id_token, Step, QualId, steps_tokens, qual_id_tokens}
 use Rattle.source_grammar.specs.Spans.{labelled, unlabelled, end_behind, span_of}
-use Rattle.source_grammar.specs.Types.{WrittenType, SimpleType, NamedType, TypeList, FunOfNamed, FunOfNone, FunOfTypes, Simple, Named, InParentheses, Pair, Triple, OfPath, Applied, Singleton, LastType, MoreTypes, type_tokens, simple_tokens, named_tokens, type_list_tokens, type_tree, simple_tree, named_tree, type_list_trees, path_tree, path_type, path_type_tree, prefix_kids, before_last, steps_tree, select_tree, ident_tree, last_of, last_id, path_span, applied_tree, fun_type}
+use Rattle.source_grammar.specs.Types.{WrittenType, SimpleType, NamedType, TypeList, FunOfNamed, FunOfNone, FunOfTypes, Simple, Named, InParentheses, Pair, Triple, OfPath, Applied, Singleton, LastType, MoreTypes, type_tokens, simple_tokens, named_tokens, type_list_tokens, type_tree, simple_tree, named_tree, type_list_trees, path_tree, path_type, path_type_tree, prefix_kids, before_last, steps_tree, select_tree, ident_tree, last_of, last_id, path_span, fun_type}
 use Rattle.parse_parts.specs.declared.states.Bracket.{Bracket}
 use Rattle.parse_parts.specs.declared.states.Bracket.TheVariants as bracket
 use Rattle.parse_parts.specs.declared.states.Count.{Count}
@@ -18,7 +16,7 @@ use Rattle.parse_parts.specs.declared.states.Frame.{Frame}
 use Rattle.parse_parts.specs.declared.states.Spot.{Spot}
 use Rattle.parse_parts.specs.declared.states.Spot.TheVariants as spot
 use Rattle.parse_parts.specs.declared.states.State.{State}
-use Rattle.parse_parts.specs.Built.{no_kids, joined, alone, node, only}
+use Rattle.parse_parts.specs.Built.{no_kids, joined, alone, node}
 use Rattle.parse_parts.specs.Steps as spec
 use Rattle.parse_parts.proofs.Derived as derived
 use Rattle.parse_parts.proofs.Sound.{fun-tokens, simple-tokens}

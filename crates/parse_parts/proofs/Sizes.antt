@@ -1,5 +1,5 @@
 -- A type has no more trees than tokens, so the numbers of its trees fit.
-use Rattle.std.proofs.Common.{◌≡◌, ℕ, ◌+◌, ◌≤◌, List, [], ◌∷◌, ◌++◌, length, map, codes, refl, ap, sym, ◌∙◌, subst, arith, length-append}
+use Rattle.std.proofs.Common.{◌≡◌, ℕ, ◌+◌, ◌≤◌, List, [], ◌∷◌, ◌++◌, length, map, codes, ap, sym, ◌∙◌, subst, arith, length-append}
 use Rattle.std.specs.List.{flat_map}
 use Rattle.pc_terms.specs.declared.problems.Span.{Span}
 use Rattle.pc_terms.specs.declared.tree_kinds.TreeKind.{TreeKind}
@@ -11,7 +11,7 @@ use Rattle.positioned_trees.specs.declared.trees.Tree.TheViews.{out-Tree, roll-T
 use Rattle.positioned_trees.proofs.Numbers.{kids_numbered, numbered-out}
 use Rattle.positioned_trees.proofs.Walks.{all_trees-out}
 use Rattle.scan_tokens.specs.Words.{Bytes}
-use Rattle.source_grammar.specs.Lexemes.{Lexeme, Place, Id, Step, QualId, steps_tokens, qual_id_tokens, open_round, close_round, arrow_token, comma, dot, word_at, open_square, close_square}
+use Rattle.source_grammar.specs.Lexemes.{Id, Step, QualId, steps_tokens, qual_id_tokens, close_round, arrow_token, comma, dot, word_at, open_square, close_square}
 use Rattle.source_grammar.specs.Spans.{labelled, from_to}
 use Rattle.source_grammar.specs.Types.{WrittenType, SimpleType, NamedType, TypeList, FunOfNamed, FunOfNone, FunOfTypes, Simple, Named, InParentheses, Pair, Triple, OfPath, Applied, Singleton, LastType, MoreTypes, type_tokens, simple_tokens, named_tokens, type_list_tokens, type_tree, simple_tree, named_tree, type_list_trees, path_tree, path_type, path_type_tree, prefix_kids, before_last, steps_tree, select_tree, ident_tree}
 

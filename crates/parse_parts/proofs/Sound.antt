@@ -1,8 +1,8 @@
 -- What was read is the tokens of the derivations in the state, so a whole state has a whole derivation.
-use Rattle.std.proofs.Common.{◌≡◌, true, false, List, [], ◌∷◌, ◌++◌, Option, Some, None, refl, ap, sym, ◌∙◌, append_assoc, append-nil, subst}
+use Rattle.std.proofs.Common.{◌≡◌, true, List, [], ◌∷◌, ◌++◌, Option, Some, None, refl, ap, sym, ◌∙◌, append_assoc, append-nil, subst}
 use Rattle.reading_machines.specs.Machines.{run, onward}
 use Rattle.source_grammar.specs.Lexemes.{Place, Lexeme, open_round, close_round, open_square, close_square, comma, dot, Arrow, arrow_token, Id, id_token, Step, QualId, steps_tokens, qual_id_tokens}
-use Rattle.source_grammar.specs.Types.{WrittenType, SimpleType, NamedType, TypeList, FunOfNamed, FunOfNone, FunOfTypes, Simple, Named, InParentheses, Pair, Triple, OfPath, Applied, Singleton, LastType, MoreTypes, type_tokens, simple_tokens, named_tokens, type_list_tokens}
+use Rattle.source_grammar.specs.Types.{WrittenType, SimpleType, TypeList, Simple, Named, InParentheses, Pair, Triple, OfPath, LastType, MoreTypes, type_tokens, simple_tokens, named_tokens, type_list_tokens}
 use Rattle.parse_parts.proofs.Seen.{Seen, AnId, OpensRound, ClosesRound, OpensSquare, ClosesSquare, AComma, ADot, AnArrow, ATypeWord, Another, seen, shown_token, token-shown}
 use Rattle.parse_parts.proofs.Derived.{Head, NamedHead, NoneHead, TypesHead, Spot, Begin, AtPath, AtDot, AtNamed, AtNone, AtTypes, Bracket, Round, Square, Done, Frame, State, fun_of, settled, listed, in_round, simple_of, head_of, longer, named_on, round_opened, square_opened, dotted, singled, pushed, parted, emptied, filled, round_within, round_closed, square_closed, round_ended, square_ended, moved, step, is_some, whole_at, machine, spot_tokens, head_tokens, heads_tokens, bracket_tokens, done_tokens, frames_tokens, state_tokens}
 

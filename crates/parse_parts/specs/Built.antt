@@ -1,5 +1,5 @@
 -- Trees as far as they are kept: not where they are higher than the limit.
-use Rattle.std.specs.Prelude.{ℕ, ◌+◌, nat_lt, if◌then◌else◌, List, [], ◌∷◌, ◌++◌, Option, Some, None, option_map}
+use Rattle.std.specs.Prelude.{ℕ, ◌+◌, nat_lt, if◌then◌else◌, List, [], ◌∷◌, ◌++◌, Option, Some, None}
 use Rattle.pc_terms.specs.declared.problems.Span.{Span}
 use Rattle.pc_terms.specs.declared.tree_kinds.TreeKind.{TreeKind}
 use Rattle.scan_tokens.specs.Words.{Bytes}

@@ -4,7 +4,7 @@ use Rattle.reading_machines.specs.Machines.{Machine}
 use Rattle.source_grammar.specs.Lexemes.{Lexeme}
 use Rattle.parse_parts.specs.declared.states.Spot.TheVariants.{Begin}
 use Rattle.parse_parts.specs.declared.states.State.{State}
-use Rattle.parse_parts.specs.Steps.{admits, advanced, is_whole, first, is_none}
+use Rattle.parse_parts.specs.Steps.{admits, advanced, is_whole}
 use Rattle.parse_parts.specs.Symbols.{symbol_of}
 
 abbrev pub begun : State

@@ -1,4 +1,4 @@
-use Rattle.std.proofs.Common.{◌≡◌, ◌∙◌, Some, None, sym, subst, map, arith}
+use Rattle.std.proofs.Common.{◌∙◌, Some, None, sym, subst, map, arith}
 use Rattle.source_grammar.specs.Lexemes.{lexeme_of}
 use Rattle.parse_parts.specs.Parting.{IsTypeAt}
 use Rattle.parse_parts.proofs.Parsed.{with-best, found-behind, found-low, found-fits}

@@ -1,4 +1,4 @@
-use Rattle.std.proofs.Common.{◌≡◌, ◌≤◌, ◌-◌, ◌∙◌, ap, length, take, drop, length-drop, arith}
+use Rattle.std.proofs.Common.{◌≤◌, ap, length, length-drop, arith}
 use Rattle.std.proofs.lemmas.Result.{IfOk-weaker}
 use Rattle.parse_parts.proofs.Places.{rest-cuts, tokens-few, from-there, behind-all}
 use Rattle.parse_parts.proofs.reader.parse_type.Goals as goal

@@ -1,4 +1,4 @@
-use Rattle.std.proofs.Common.{◌≡◌, ◌+◌, ◌∷◌, true, false, drop, slice_index_or, ap, sym, ◌∙◌}
+use Rattle.std.proofs.Common.{ap, sym, ◌∙◌}
 use Rattle.reading_machines.specs.Machines.{noted}
 use Rattle.parse_parts.specs.Symbols.{symbol_of}
 use Rattle.parse_parts.proofs.Loops.{seen, stops, goes_on, noted-now}

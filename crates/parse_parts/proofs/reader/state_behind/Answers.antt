@@ -1,4 +1,4 @@
-use Rattle.std.proofs.Common.{◌≡◌, ◌∙◌, ap, sym, take, map, length-take-le}
+use Rattle.std.proofs.Common.{◌∙◌, ap, sym, map, length-take-le}
 use Rattle.std.proofs.lemmas.List.{take-map}
 use Rattle.source_grammar.specs.Lexemes.{lexeme_of}
 use Rattle.reading_machines.specs.Machines.{reading_of}

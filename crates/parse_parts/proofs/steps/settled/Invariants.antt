@@ -1,4 +1,4 @@
-use Rattle.std.proofs.Common.{◌≡◌, ℕ, length}
+use Rattle.std.proofs.Common.{◌≡◌, length}
 use Rattle.parse_parts.specs.Steps as spec
 use Rattle.parse_parts.proofs.steps.settled.Given as goal
 

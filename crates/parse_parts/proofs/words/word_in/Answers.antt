@@ -1,4 +1,4 @@
-use Rattle.std.proofs.Common.{◌≡◌, ◌∙◌, ap}
+use Rattle.std.proofs.Common.{◌∙◌, ap}
 use Rattle.std.specs.List.{slice_range}
 use Rattle.parse_parts.proofs.Quotes.{quoted-word, plain-word}
 use Rattle.parse_parts.proofs.words.word_in.Goals as goal
