@@ -13,3 +13,4 @@ pub mod Shown
 pub mod Seen
 pub mod Sizes
 pub mod Sound
+pub mod Unique

@@ -11,7 +11,7 @@ mod steps;
 mod symbols;
 mod words;
 
-pub use laws::law_one_tree;
+pub use laws::{law_one_part, law_one_tree};
 pub use parts::Part;
 pub use reader::parse_type;
 pub use symbols::{Symbol, read_symbol};
