@@ -5,3 +5,4 @@ pub mod PreOrder
 pub mod Spans
 pub mod Standing
 pub mod Walks
+pub mod Siblings

@@ -1,0 +1,16 @@
+pub mod Along
+pub mod Cuts
+pub mod Answering
+pub mod Derived
+pub mod Exact
+pub mod Kept
+pub mod Loops
+pub mod Moves
+pub mod Parsed
+pub mod Places
+pub mod Quotes
+pub mod Shown
+pub mod Seen
+pub mod Sizes
+pub mod Sound
+pub mod Unique

@@ -1,0 +1,6 @@
+pub mod Built
+pub mod Parting
+pub mod Reading
+pub mod Steps
+pub mod Symbols
+pub mod Words

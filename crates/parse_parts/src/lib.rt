@@ -1,0 +1,17 @@
+//! Reads the parts of a source that stand inside expressions and definitions: types.
+#![tactic(auto)]
+
+mod built;
+mod laws;
+mod parts;
+mod reader;
+mod stack;
+mod states;
+mod steps;
+mod symbols;
+mod words;
+
+pub use laws::{law_one_part, law_one_tree};
+pub use parts::Part;
+pub use reader::parse_type;
+pub use symbols::{Symbol, read_symbol};

@@ -1,0 +1,7 @@
+//! The tests of `parse_parts`. They stand in a crate of their own, since a crate with tests is proved twice.
+#![tactic(auto)]
+
+#[cfg(test)]
+mod rows;
+#[cfg(test)]
+mod types;
