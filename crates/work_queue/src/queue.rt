@@ -167,6 +167,13 @@ impl Queue {
         Some(ticket)
     }
 
+    /// Whether the session was shut down.
+    pub fn is_closed(&self) -> bool
+        ensures { result ≡ is_closed self.now.journal }
+    {
+        self.log.close_index().is_some()
+    }
+
     /// Whether a cancel of the ticket stands.
     pub fn is_cancelled(&self, ticket: u64) -> bool
         ensures { result ≡ is_cancelled self.now.journal ticket }
