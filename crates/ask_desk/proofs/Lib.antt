@@ -1,2 +1,4 @@
 pub mod Desks
 pub mod Passing
+pub mod Shutdown
+pub mod Waiting

@@ -1,3 +1,5 @@
+pub mod Lending
+pub mod Events
 pub mod Answers
 pub mod Locked
 pub mod Passes

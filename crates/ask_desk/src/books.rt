@@ -1,6 +1,7 @@
 //! The queue and the cells of a desk, which a pass that leads writes into the history.
 ghost use Rattle.std.specs.Prelude.{◌≡◌, ◌⊎◌, ℕ, ◌<◌, ◌≤◌, ◌+◌, ◌^◌, ◌++◌, ◌∷◌, [], length, Some, None, IsTrue, IfOk, IfErr, OnOk, OnErr, true, false, is_some, List};
-ghost use Rattle.ask_history.specs.Journal.{accepted};
+ghost use Rattle.ask_history.specs.Engine.{has_file_names};
+ghost use Rattle.ask_history.specs.Journal.{accepted, is_closed, is_settled};
 ghost use Rattle.ask_history.specs.Legal.{is_legal};
 ghost use Rattle.ask_history.specs.declared.events.Event.{Event as AnEvent};
 ghost use Rattle.ask_history.specs.declared.events.Event.TheVariants.{Accept, Cancel};
@@ -8,11 +9,13 @@ ghost use Rattle.work_queue.specs.Reloads.{reloaded_by};
 ghost use Rattle.work_queue.specs.Refusal.{refusal};
 ghost use Rattle.work_queue.specs.Queue.{cancel_seen, cancelling};
 ghost use Rattle.counting_word.specs.History.{journal_of};
-ghost use Rattle.ask_desk.specs.Answers.{written};
-ghost use Rattle.ask_desk.specs.Locked.{IsDesk};
+ghost use Rattle.work_queue.specs.Indexes.{close_index};
+ghost use Rattle.ask_desk.specs.Answers.{written, closing};
+ghost use Rattle.ask_desk.specs.Locked.{IsDesk, AreSettled, told};
+ghost use Rattle.ask_desk.specs.Events.{settled_ticket};
 ghost use Rattle.work_queue.specs.declared.limits.PostRefused.TheVariants.{NoMemory as NoRoom};
 
-use ask_history::{Call, Event};
+use ask_history::{Answer, Call, Event};
 use counting_word::{Counter, Room, Seat};
 use response_cell::Cells;
 use std::alloc::Global;
@@ -37,6 +40,7 @@ impl Books {
         call: Call,
     ) -> Result<u64, (PostRefused, Call)>
         requires few { length (reloaded_by call) < 2 ^ 32 }
+        requires names { has_file_names call ≡ true }
         requires leads { seat.old.leads ≡ true }
         requires named { seat.old.name.number ≡ Some number }
         requires desk { IsDesk self.old.queue self.old.cells seat.old.seen seat.old.name.given B.limits }
@@ -65,6 +69,7 @@ impl Books {
         call: Call,
     ) -> Result<u64, (PostRefused, Call)>
         requires few { length (reloaded_by call) < 2 ^ 32 }
+        requires names { has_file_names call ≡ true }
         requires leads { seat.old.leads ≡ true }
         requires named { seat.old.name.number ≡ Some number }
         requires desk { IsDesk self.old.queue self.old.cells seat.old.seen seat.old.name.given B.limits }
@@ -109,6 +114,87 @@ impl Books {
             return seen;
         }
         seen
+    }
+
+    /// Shuts the session down, unless it is shut down, and puts that behind the history in the name of the seat, which
+    /// leads. Gives the journal index of the shutdown.
+    pub fn close<B: Room>(&mut self, counter: &Counter<B>, seat: &mut Seat<B>) -> u64
+        requires leads { seat.old.leads ≡ true }
+        requires named { IsTrue (is_some seat.old.name.number) }
+        requires desk { IsDesk self.old.queue self.old.cells seat.old.seen seat.old.name.given B.limits }
+        requires given { AreSettled seat.old.name.given seat.old.seen }
+        requires legal { IsTrue (is_legal (journal_of seat.old.seen)) }
+        ensures desk { IsDesk self.new.queue self.new.cells seat.new.seen seat.new.name.given B.limits }
+        ensures seat { seat.new ≡ written seat.old (closing (journal_of seat.old.seen)) }
+        ensures index { close_index (journal_of seat.new.seen) ≡ Some result }
+        ensures settled { (ticket : ℕ) → ticket < accepted (journal_of seat.new.seen) → is_settled (journal_of seat.new.seen) ticket ≡ true }
+    {
+        let count = self.queue.journal().len();
+        let index = self.queue.close();
+        write_shutdown(
+            counter,
+            seat,
+            &mut self.cells,
+            &self.queue.journal()[count..],
+        );
+        index
+    }
+}
+
+/// Puts the events of a shutdown behind the history.
+fn write_shutdown<B: Room>(
+    counter: &Counter<B>,
+    seat: &mut Seat<B>,
+    cells: &mut Cells,
+    events: &[Event],
+)
+    requires leads { seat.old.leads ≡ true }
+    requires named { IsTrue (is_some seat.old.name.number) }
+    requires desk { IsDesk (told seat.old.seen B.limits) cells.old seat.old.seen seat.old.name.given B.limits }
+    requires given { AreSettled seat.old.name.given seat.old.seen }
+    requires events { events.now ≡ closing (journal_of seat.old.seen) }
+    requires legal { IsTrue (is_legal (journal_of seat.old.seen ++ events.now)) }
+    requires room { length (journal_of seat.old.seen ++ events.now) < 2 ^ 64 }
+    ensures desk { IsDesk (told seat.new.seen B.limits) cells.new seat.new.seen seat.new.name.given B.limits }
+    ensures seat { seat.new ≡ written seat.old events.now }
+{
+    if let Some((close, settlings)) = events.split_first() {
+        counter.append(seat, close);
+        write_settlings(counter, seat, cells, settlings);
+    }
+}
+
+/// Puts the settlings of a shutdown behind the history, and the answers into their cells.
+fn write_settlings<B: Room>(
+    counter: &Counter<B>,
+    seat: &mut Seat<B>,
+    cells: &mut Cells,
+    events: &[Event],
+)
+    requires leads { seat.old.leads ≡ true }
+    requires named { IsTrue (is_some seat.old.name.number) }
+    requires desk { IsDesk (told seat.old.seen B.limits) cells.old seat.old.seen seat.old.name.given B.limits }
+    requires given { AreSettled seat.old.name.given seat.old.seen }
+    requires closed { is_closed (journal_of seat.old.seen) ≡ true }
+    requires legal { IsTrue (is_legal (journal_of seat.old.seen ++ events.now)) }
+    requires room { length (journal_of seat.old.seen ++ events.now) < 2 ^ 64 }
+    ensures desk { IsDesk (told seat.new.seen B.limits) cells.new seat.new.seen seat.new.name.given B.limits }
+    ensures seat { seat.new ≡ written seat.old events.now }
+{
+    for event in events {
+        if let Some(ticket) = settled_ticket(event) {
+            counter.append_answer(seat, event, &Answer::Closed);
+            cells.set(ticket, Answer::Closed);
+        }
+    }
+}
+
+fn settled_ticket(event: &Event) -> Option<u64>
+    ensures { result ≡ settled_ticket event.now }
+{
+    match event {
+        Event::Settle { ticket, mark: _ } => Some(*ticket),
+        _ => None,
     }
 }
 
