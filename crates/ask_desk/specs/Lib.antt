@@ -5,3 +5,4 @@ pub mod Locked
 pub mod Passes
 pub mod Results
 pub mod Facts
+pub mod Driving

@@ -28,9 +28,10 @@ const ENGINE: u64 = 1 << 32;
 /// One history, which callers of any number add to and wait on.
 #[derive(Drop)]
 pub struct Desk<B: Room> {
-    counter: Counter<B>,
-    locked: Mutex<Locked<B>>,
-    settled: Condvar,
+    pub(crate) counter: Counter<B>,
+    pub(crate) locked: Mutex<Locked<B>>,
+    pub(crate) posted: Condvar,
+    pub(crate) settled: Condvar,
 }
 
 impl<B: Room> Desk<B> {
@@ -57,6 +58,7 @@ impl<B: Room> Desk<B> {
         let desk = Desk {
             counter,
             locked: Mutex::new(locked),
+            posted: Condvar::new(),
             settled: Condvar::new(),
         };
         Ok((desk, EnginePass { pass, made: 0 }))
@@ -85,6 +87,7 @@ impl<B: Room> Desk<B> {
         let Desk {
             counter,
             locked,
+            posted: _,
             settled: _,
         } = self;
         let EnginePass { pass, made: _ } = engine;
@@ -105,9 +108,12 @@ impl<B: Room> Desk<B> {
         ensures ok { IfOk result (λ ticket. Accepts B.limits pass.old pass.new ticket.ticket tag call) }
         ensures refused { IfErr result (λ back. (back.1 ≡ call) × Refuses B.limits pass.old pass.new back.0 call) }
     {
-        self.locked
+        let posted = self
+            .locked
             .lock(rt)
-            .post(alloc, &self.counter, pass, tag, call)
+            .post(alloc, &self.counter, pass, tag, call);
+        self.posted.notify_all();
+        posted
     }
 
     /// Cancels the call of a ticket, unless it is settled. It takes no memory.
@@ -149,12 +155,13 @@ impl<B: Room> Desk<B> {
         unreachable!()
     }
 
-    /// Shuts the session down, unless it is shut down, settles all open tickets, and wakes all that wait for an answer.
-    /// Gives the journal index of the shutdown. It takes no memory.
+    /// Shuts the session down, unless it is shut down, settles all open tickets, and wakes all that wait. Gives the
+    /// journal index of the shutdown. It takes no memory.
     pub fn close<R: Wait>(&self, rt: &R, pass: &mut Pass<B>) -> u64
         ensures { Closes pass.old pass.new result }
     {
         let index = self.locked.lock(rt).close(&self.counter, pass);
+        self.posted.notify_all();
         self.settled.notify_all();
         index
     }

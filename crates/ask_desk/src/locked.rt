@@ -21,8 +21,8 @@ use work_queue::{CancelSeen, PostRefused, Queue};
 /// What lies under the lock: the queue, the cells and the seat that leads between calls. Contracts see that seat's view.
 #[derive(Drop)]
 pub struct Locked<B: Room> {
-    books: Books,
-    scribe: Seat<B>,
+    pub(crate) books: Books,
+    pub(crate) scribe: Seat<B>,
 }
 
 impl<B: Room> Model for Locked<B> {
