@@ -1,15 +1,15 @@
 //! Reads the parts of a source that stand inside expressions and definitions: types.
 #![tactic(auto)]
 
-mod built;
+pub mod built;
 mod laws;
 mod parts;
 mod reader;
-mod stack;
-mod states;
-mod steps;
+pub mod stack;
+pub mod states;
+pub mod steps;
 mod symbols;
-mod words;
+pub mod words;
 
 pub use laws::{law_one_part, law_one_tree};
 pub use parts::Part;
