@@ -96,7 +96,7 @@ other_stays journal (Settle ticket mark) may open_ other unshut = absurd (true�
 other_stays journal (Checked file) may open_ other unshut = absurd (true≢false (sym other))
 
 -- the shutdown stands in what follows where it stands before
-closed-further : (journal events : List Event) → is_closed (journal ++ events) ≡ false → is_closed journal ≡ false
+pub closed-further : (journal events : List Event) → is_closed (journal ++ events) ≡ false → is_closed journal ≡ false
 closed-further [] events h = refl
 closed-further (event ∷ journal) events h = by (is_close event) h (closed-further journal events)
   where

@@ -33,7 +33,7 @@ use Rattle.ask_desk.specs.Locked.{IsDesk, AreSettled}
 use Rattle.ask_desk.specs.Driving.{is_others, are_others, IsLater, Works, settled_as, Settles, checking, Checks, Looks}
 use Rattle.ask_desk.specs.declared.driving.News.{News}
 use Rattle.ask_desk.specs.declared.driving.CheckNoted.TheVariants as noted
-use Rattle.ask_desk.proofs.Others.{Stays, others_stay, open_stays, check_stays}
+use Rattle.ask_desk.proofs.Others.{Stays, others_stay, closed-further, open_stays, check_stays}
 use Rattle.ask_desk.proofs.Passing.{settled-begins}
 
 -- ---- what others did
@@ -83,6 +83,18 @@ others_made closed (entry ∷ entries) h none =
     by false e k may later =
         and_from (is_others closed entry.event) (are_others (closed || is_close entry.event) (journal_of entries))
         (others_make closed entry.event entry.author e may) (later k)
+
+-- before the shutdown, what others did leaves what the engine needs
+pub later_stays : (old now : List Entry) → IsLater old now → IsTrue (is_legal (journal_of now)) → is_closed (journal_of now) ≡ false → Stays (journal_of old) (journal_of now)
+later_stays old now later legal open_ =
+    let same : journal_of now ≡ journal_of old ++ journal_of later.others = ap journal_of later.behind ∙ journal_of-append old later.others in
+    subst (Stays (journal_of old)) (sym same)
+    (others_stay (journal_of old) (journal_of later.others) (subst (λ js. IsTrue (is_legal js)) same legal) later.kinds (sym (ap is_closed same) ∙ open_))
+
+-- what was shut down stays so
+pub later_open : (old now : List Entry) → IsLater old now → is_closed (journal_of now) ≡ false → is_closed (journal_of old) ≡ false
+later_open old now later open_ =
+    closed-further (journal_of old) (journal_of later.others) (sym (ap is_closed (ap journal_of later.behind ∙ journal_of-append old later.others)) ∙ open_)
 
 -- ---- a ticket that is settled
 
@@ -144,13 +156,10 @@ module _ (queue : QueueState) (cells : List Cell) (limits : Limits) (old scribe 
             (rightful_behind false old.seen others (subst (λ es. IsTrue (is_rightful false es)) behind desk.rightful)) none;
       }
 
-  -- before the shutdown, what others did leaves what the engine needs
-  pub stays : is_closed (journal_of led.seen) ≡ false → Stays (journal_of old.seen) (journal_of led.seen)
+  stays : is_closed (journal_of led.seen) ≡ false → Stays (journal_of old.seen) (journal_of led.seen)
   stays open_ =
-      let same : journal_of led.seen ≡ journal_of old.seen ++ journal_of later.others =
-      ap journal_of (seen_led ∙ later.behind) ∙ journal_of-append old.seen later.others in
-      subst (Stays (journal_of old.seen)) (sym same)
-      (others_stay (journal_of old.seen) (journal_of later.others) (subst (λ js. IsTrue (is_legal js)) same takes.knows.legal) later.kinds (sym (ap is_closed same) ∙ open_))
+      subst (λ (es : List Entry). Stays (journal_of old.seen) (journal_of es)) (sym seen_led)
+      (later_stays old.seen scribe.seen later (subst (λ es. IsTrue (is_legal (journal_of es))) seen_led takes.knows.legal) (ap (λ es. is_closed (journal_of es)) (sym seen_led) ∙ open_))
 
   -- what the pass knows after it put these entries behind the history
   module _ (done new next : View) (entries : List Entry) (gives : GivesLead done new next) (seen : done.seen ≡ led.seen ++ entries)
