@@ -12,9 +12,9 @@ use std::alloc::{AllocError, Global};
 use std::process::Abort;
 use std::test::Fail;
 
-/// A text with two marks ▮, and what is read at the first mark. The second mark stands behind the part, or before the first token that no
-/// part admits. A tree is written as its number, its kind, its label, the span of the label where that is not the tree's, its span, and its
-/// kids between brackets.
+/// A text with two marks ▮, and what is read at the first mark. The second mark stands behind the part, or before
+/// the first token that no part admits. A tree is written as its number, its kind, its label, the span of the label
+/// where that is not the tree's, its span, and its kids between brackets.
 pub type Row = (&'static str, &'static str);
 
 /// The tokens of a text, and the numbers of those behind the two marks.

@@ -66,7 +66,8 @@ static ARGUMENTS: [Row; 10] = [
     ),
     (
         "▮A\n[(B, C) => D]▮",
-        "0 AppliedType A@0-1 0-15 [1 TypeIdent A 0-1, 2 FunType 3-14 [3 TypeIdent B 4-5, 4 TypeIdent C 7-8, 5 TypeIdent D 13-14]]",
+        "0 AppliedType A@0-1 0-15 [1 TypeIdent A 0-1, 2 FunType 3-14 [3 TypeIdent B 4-5, \
+             4 TypeIdent C 7-8, 5 TypeIdent D 13-14]]",
     ),
     ("▮A▮[]", "0 TypeIdent A 0-1"),
     ("▮A▮[B", "0 TypeIdent A 0-1"),
@@ -133,7 +134,8 @@ static FUNCTIONS: [Row; 12] = [
     ),
     (
         "▮(A, B, C, D) => E▮",
-        "0 FunType 0-17 [1 TypeIdent A 1-2, 2 TypeIdent B 4-5, 3 TypeIdent C 7-8, 4 TypeIdent D 10-11, 5 TypeIdent E 16-17]",
+        "0 FunType 0-17 [1 TypeIdent A 1-2, 2 TypeIdent B 4-5, 3 TypeIdent C 7-8, \
+             4 TypeIdent D 10-11, 5 TypeIdent E 16-17]",
     ),
     (
         "▮A => (B)▮",
@@ -149,7 +151,8 @@ static FUNCTIONS: [Row; 12] = [
     ),
     (
         "▮A[B] => c.D▮ {",
-        "0 FunType 0-11 [1 AppliedType A@0-1 0-4 [2 TypeIdent A 0-1, 3 TypeIdent B 2-3], 4 TypeSelect D@10-11 8-11 [5 Ident c 8-9]]",
+        "0 FunType 0-11 [1 AppliedType A@0-1 0-4 [2 TypeIdent A 0-1, 3 TypeIdent B 2-3], \
+             4 TypeSelect D@10-11 8-11 [5 Ident c 8-9]]",
     ),
 ];
 

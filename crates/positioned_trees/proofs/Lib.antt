@@ -6,3 +6,4 @@ pub mod Spans
 pub mod Standing
 pub mod Walks
 pub mod Siblings
+pub mod Apart

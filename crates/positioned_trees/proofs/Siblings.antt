@@ -5,9 +5,8 @@ use Rattle.std.proofs.lemmas.Bool.Decides.{nat_tests}
 use Rattle.std.proofs.lemmas.List.Elements.{filter_passes}
 use Rattle.std.proofs.lemmas.List.Kept.{AllPairs-filter}
 use Rattle.pc_terms.specs.declared.problems.Span.{Span}
-use Rattle.positioned_trees.specs.Located.{AreApart, KeepsKidsApart, holds_offset, holding, opaque_kids}
+use Rattle.positioned_trees.specs.Located.{AreApart, KeepsKidsApart, holds_offset, holding, opaque_spans}
 use Rattle.positioned_trees.specs.declared.trees.Tree.{Tree}
-use Rattle.positioned_trees.specs.declared.trees.Tree.TheViews.{out-Tree}
 
 record Holds (span : Span) (offset : ℕ) : Type 0 where
   begun : span.start ≤ offset
@@ -29,21 +28,18 @@ not_three a b c offset ha hb hc (inr ab) (inl ac) (inr bc) = omega arith
 not_three a b c offset ha hb hc (inr ab) (inr ac) (inl bc) = omega arith
 not_three a b c offset ha hb hc (inr ab) (inr ac) (inr bc) = omega arith
 
-few : (trees : List Tree) (offset : ℕ) → AllPairs (λ a b. AreApart (out-Tree a).span (out-Tree b).span) trees
-    → All (λ tree. (nat_lt (out-Tree tree).span.start (out-Tree tree).span.end && holds_offset (out-Tree tree).span offset) ≡ true) trees → length trees ≤ 2
+few : (spans : List Span) (offset : ℕ) → AllPairs AreApart spans
+    → All (λ span. (nat_lt span.start span.end && holds_offset span offset) ≡ true) spans → length spans ≤ 2
 few [] offset pairs each = omega arith
 few (a ∷ []) offset pairs each = omega arith
 few (a ∷ b ∷ []) offset pairs each = omega arith
-few (a ∷ b ∷ c ∷ trees) offset pairs each =
-    absurd (not_three (out-Tree a).span (out-Tree b).span (out-Tree c).span offset
-    (holds-from_test (out-Tree a).span offset (each 0 a (omega arith)))
-    (holds-from_test (out-Tree b).span offset (each 1 a (omega arith)))
-    (holds-from_test (out-Tree c).span offset (each 2 a (omega arith)))
+few (a ∷ b ∷ c ∷ spans) offset pairs each =
+    absurd (not_three a b c offset
+    (holds-from_test a offset (each 0 a (omega arith))) (holds-from_test b offset (each 1 a (omega arith))) (holds-from_test c offset (each 2 a (omega arith)))
     (pairs 0 1 a (omega arith) (omega arith)) (pairs 0 2 a (omega arith) (omega arith)) (pairs 1 2 a (omega arith) (omega arith)))
 
-pub few-apart : (tree : Tree) (offset : ℕ) → KeepsKidsApart tree → length (holding offset (opaque_kids tree)) ≤ 2
+pub few-apart : (tree : Tree) (offset : ℕ) → KeepsKidsApart tree → length (holding offset (opaque_spans tree)) ≤ 2
 few-apart tree offset apart =
-    few (holding offset (opaque_kids tree)) offset
-    (AllPairs-filter (λ a b. AreApart (out-Tree a).span (out-Tree b).span)
-    (λ kid. nat_lt (out-Tree kid).span.start (out-Tree kid).span.end && holds_offset (out-Tree kid).span offset) (opaque_kids tree) apart)
-    (filter_passes (λ kid. nat_lt (out-Tree kid).span.start (out-Tree kid).span.end && holds_offset (out-Tree kid).span offset) (opaque_kids tree))
+    few (holding offset (opaque_spans tree)) offset
+    (AllPairs-filter AreApart (λ span. nat_lt span.start span.end && holds_offset span offset) (opaque_spans tree) apart)
+    (filter_passes (λ span. nat_lt span.start span.end && holds_offset span offset) (opaque_spans tree))

@@ -79,16 +79,17 @@ pub record IsChosen (unit : SourceUnit) (offset id : ℕ) : Type 0 where
 abbrev pub AreApart : Span → Span → Type 0
 AreApart a b = (a.end ≤ b.start) ⊎ (b.end ≤ a.start)
 
-abbrev pub opaque_kids : Tree → List Tree
-opaque_kids tree = filter (λ kid. (out-Tree kid).opaque) (out-Tree tree).kids
+-- the spans of a tree's opaque kids
+abbrev pub opaque_spans : Tree → List Span
+opaque_spans tree = map (λ kid. (out-Tree kid).span) (filter (λ kid. (out-Tree kid).opaque) (out-Tree tree).kids)
 
 -- no two opaque kids of a tree overlap
 abbrev pub KeepsKidsApart : Tree → Type 0
-KeepsKidsApart tree = AllPairs (λ a b. AreApart (out-Tree a).span (out-Tree b).span) (opaque_kids tree)
+KeepsKidsApart tree = AllPairs AreApart (opaque_spans tree)
 
--- those of the trees that are not empty and hold the offset
-abbrev pub holding : ℕ → List Tree → List Tree
-holding offset trees = filter (λ tree. nat_lt (out-Tree tree).span.start (out-Tree tree).span.end && holds_offset (out-Tree tree).span offset) trees
+-- those of the spans that are not empty and hold the offset
+abbrev pub holding : ℕ → List Span → List Span
+holding offset spans = filter (λ span. nat_lt span.start span.end && holds_offset span offset) spans
 
 -- ---- what the kids' spans say of all trees
 
