@@ -14,3 +14,6 @@ pub mod Seen
 pub mod Sizes
 pub mod Sound
 pub mod Unique
+pub mod Placed
+pub mod Sitting
+pub mod TypesSit
