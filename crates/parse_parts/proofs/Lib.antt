@@ -15,3 +15,6 @@ pub mod Sizes
 pub mod Sound
 pub mod Stacks
 pub mod Unique
+pub mod Placed
+pub mod Sitting
+pub mod TypesSit

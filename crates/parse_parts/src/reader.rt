@@ -7,12 +7,11 @@ ghost use Rattle.pc_terms.specs.Bytes.{max_source_bytes};
 ghost use Rattle.scan_tokens.specs.Scanned.{scanned};
 ghost use Rattle.source_grammar.specs.Lexemes.{lexeme_of, lexemes};
 ghost use Rattle.positioned_trees.specs.Trees.{height, max_number, numbered};
-ghost use Rattle.reading_machines.specs.Machines.{reading_of, run};
-ghost use Rattle.reading_machines.specs.Parts.{anything};
 ghost use Rattle.parse_parts.specs.Built.{max_height};
 ghost use Rattle.parse_parts.specs.Parting as spec;
 ghost use Rattle.parse_parts.specs.Parting.{IsTypeAt};
-ghost use Rattle.parse_parts.specs.Reading.{reader};
+ghost use Rattle.parse_parts.specs.Reading.{ComesTo, LeadsTo, reader};
+ghost use Rattle.parse_parts.specs.Standing.{IsPlacedPart};
 ghost use Rattle.parse_parts.specs.Words.{IsCut};
 
 use crate::built::Tall;
@@ -44,7 +43,7 @@ fn is_type(state: &State) -> bool
 fn read(alloc: Global, text: &str, tokens: &[Token]) -> Result<Reading, NoMemory>
     requires cut { All (IsCut text.now) tokens.now }
     requires few { length tokens.now ≤ max_source_bytes }
-    ensures { IfOk result (λ r. reading_of reader anything (map (lexeme_of text.now) tokens.now) ≡ record { state = r.state; reached = r.reached; best = r.best }) }
+    ensures { IfOk result (λ r. ComesTo (map (lexeme_of text.now) tokens.now) r.state r.reached r.best) }
 {
     let mut state = State {
         frames: Stack::new(alloc),
@@ -89,8 +88,8 @@ fn state_behind(
 ) -> Result<State, NoMemory>
     requires cut { All (IsCut text.now) tokens.now }
     requires few { length tokens.now ≤ max_source_bytes }
-    requires longest { reading_of reader anything (map (lexeme_of text.now) tokens.now) ≡ record { state = reading.state; reached = reading.reached; best = Some count } }
-    ensures { IfOk result (λ state. run (reader).step (take count (map (lexeme_of text.now) tokens.now)) (reader).start ≡ Some state) }
+    requires longest { ComesTo (map (lexeme_of text.now) tokens.now) reading.state reading.reached (Some count) }
+    ensures { IfOk result (LeadsTo (take count (map (lexeme_of text.now) tokens.now))) }
 {
     if count == reading.reached {
         Ok(reading.state)
@@ -137,7 +136,8 @@ pub fn parse_type(alloc: Global, tokens: &Tokens, at: u32) -> Result<Part, NoMem
     requires short { length tokens.now.text ≤ max_source_bytes }
     requires scanned { tokens.now ≡ scanned tokens.now.text }
     requires within { at ≤ length tokens.now.tokens }
-    ensures { IfOk result (λ part. IsTypeAt (drop at (lexemes tokens.now)) at part) }
+    ensures is { IfOk result (λ part. IsTypeAt (drop at (lexemes tokens.now)) at part) }
+    ensures placed { IfOk result (λ part. IsPlacedPart (length tokens.now.text) part) }
 {
     let text = tokens.text.as_str();
     parse(alloc, text, &tokens.tokens.as_slice()[at as usize..], at)

@@ -13,14 +13,14 @@ use Rattle.positioned_trees.proofs.PreOrder.{span_kept, opaque_kept}
 use Rattle.positioned_trees.proofs.Spans.{All-front, All-back, All-kids, All-root}
 use Rattle.positioned_trees.proofs.Walks.{all_trees-out}
 
-abbrev spans_of : List Tree → List Span
+abbrev pub spans_of : List Tree → List Span
 spans_of trees = map (λ kid. (out-Tree kid).span) (filter (λ kid. (out-Tree kid).opaque) trees)
 
-abbrev put : Bool → Span → List Span → List Span
+abbrev pub put : Bool → Span → List Span → List Span
 put true span spans = span ∷ spans
 put false span spans = spans
 
-spans-cons : (tree : Tree) (trees : List Tree) → spans_of (tree ∷ trees) ≡ put (out-Tree tree).opaque (out-Tree tree).span (spans_of trees)
+pub spans-cons : (tree : Tree) (trees : List Tree) → spans_of (tree ∷ trees) ≡ put (out-Tree tree).opaque (out-Tree tree).span (spans_of trees)
 spans-cons tree trees = go (out-Tree tree).opaque where
   go : (b : Bool) → map (λ kid. (out-Tree kid).span) (cond b (tree ∷ filter (λ kid. (out-Tree kid).opaque) trees) (filter (λ kid. (out-Tree kid).opaque) trees))
       ≡ put b (out-Tree tree).span (spans_of trees)
