@@ -1,6 +1,7 @@
 //! What a core does, act by act: asks that wait for one another, mutations under them, and the checks between them.
 
-ghost use Rattle.std.specs.Prelude.{◌≡◌, ◌<◌, ◌≤◌, ◌+◌, ◌*◌, ◌^◌, ◌⊎◌, if◌then◌else◌, ◌==◌, [], true, false, not, None, map, filter, length, All, OnOk, OnErr};
+ghost use Rattle.std.specs.Prelude.{◌≡◌, ◌<◌, ◌≤◌, ◌+◌, ◌*◌, ◌==◌, if◌then◌else◌, [], true, false, not, None};
+ghost use Rattle.std.specs.Prelude.{map, filter, length, All, OnOk, OnErr};
 ghost use Rattle.std.specs.Bool.{OnTrue};
 ghost use Rattle.std.specs.List.{list_all, list_any};
 ghost use Rattle.ask_history.specs.Engine.{HasFileSizes, has_file_names, is_file_name, is_open_in};
@@ -279,7 +280,7 @@ fn is_change(call: &Call) -> bool
 
 // ---- the player
 
-/// A core with the tickets of its open asks, and twice as many files as it may hold at most.
+/// A core with nothing staged, the tickets of its open asks, and how often it was fed a mutation of two files at most.
 #[derive(Drop)]
 struct Player {
     core: Core,
@@ -299,11 +300,12 @@ fn mutate(core: &mut Core, call: &Call, stops: bool, effect: Effect) -> Result<(
     requires asks { is_open_in (state_of core.old).asks MUTATION ≡ false }
     requires sizes { HasFileSizes call.now }
     requires names { has_file_names call.now ≡ true }
-    requires few { length (mutated (state_of core.old).sources call.now) < 2 ^ 31 }
+    requires two { (files : Sources) → length (mutated files call.now) ≤ length files + 2 }
+    requires few { length (state_of core.old).sources < 10000 }
     ensures staged { (state_of core.new).staged ≡ None }
     ensures asks { OnOk result ((state_of core.new).asks ≡ (if stops then [] else (state_of core.old).asks)) }
     ensures err { OnErr result (state_of core.new ≡ state_of core.old) }
-    ensures sources { OnOk result (((state_of core.new).sources ≡ mutated (state_of core.old).sources call.now) ⊎ ((state_of core.new).sources ≡ (state_of core.old).sources)) }
+    ensures few { OnOk result (length (state_of core.new).sources ≤ length (state_of core.old).sources + 2) }
 {
     match core.feed(MUTATION, call) {
         Fed::Staged => {

@@ -1,7 +1,8 @@
 //! What a core answers about the tree at an offset. In each row one ▮ marks the offset of the ask, and two the
 //! span of the tree that is found.
 
-ghost use Rattle.std.specs.Prelude.{◌≡◌, ◌<◌, ◌≤◌, ◌+◌, [], ◌∷◌, true, None, length, IfOk, OnOk};
+ghost use Rattle.std.specs.Prelude.{◌≡◌, ◌<◌, ◌≤◌, ◌+◌, [], ◌∷◌, true, None, length};
+ghost use Rattle.std.specs.Result.{IfOk, OnOk};
 ghost use Rattle.ask_history.specs.Engine.{is_file_name};
 ghost use Rattle.ask_history.specs.declared.calls.Call.TheVariants.{Reload};
 ghost use Rattle.compiler_loop.specs.CoreState.{state_of};
@@ -305,7 +306,9 @@ fn answer_of_two(
     file: &str,
     offset: u32,
 ) -> Result<Option<Answer>, NoMemory>
-    requires names { (is_file_name first.0.now ≡ true) × (is_file_name second.0.now ≡ true) × (is_file_name file.now ≡ true) }
+    requires first_name { is_file_name first.0.now ≡ true }
+    requires second_name { is_file_name second.0.now ≡ true }
+    requires name { is_file_name file.now ≡ true }
     requires first { length first.1.now ≤ max_source_bytes }
     requires second { length second.1.now ≤ max_source_bytes }
 {
