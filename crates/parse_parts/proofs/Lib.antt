@@ -13,4 +13,5 @@ pub mod Shown
 pub mod Seen
 pub mod Sizes
 pub mod Sound
+pub mod Stacks
 pub mod Unique

@@ -10,7 +10,7 @@ steps-longer : (steps : List Step) (s : Step) → steps_tokens (steps ++ s ∷ [
 steps-longer [] s = refl
 steps-longer (t ∷ steps) s = ap (λ xs. dot t.point ∷ id_token t.id ∷ xs) (steps-longer steps s)
 
-longer-tokens : (path : QualId) (d : Place) (id : Id) → qual_id_tokens (longer path d id) ≡ (qual_id_tokens path ++ dot d ∷ []) ++ id_token id ∷ []
+pub longer-tokens : (path : QualId) (d : Place) (id : Id) → qual_id_tokens (longer path d id) ≡ (qual_id_tokens path ++ dot d ∷ []) ++ id_token id ∷ []
 longer-tokens path d id =
     ap (λ xs. id_token path.first ∷ xs) (steps-longer path.steps (record { point = d; id = id }) ∙ sym (append_assoc (steps_tokens path.steps) (dot d ∷ []) (id_token id ∷ [])))
 
@@ -180,7 +180,7 @@ moved-adds (AnArrow a) spot hs fs = pushed-adds a spot (head_of a spot) hs fs re
 moved-adds (ATypeWord w) spot hs fs = singled-adds w spot hs fs
 moved-adds (Another x) spot hs fs = adds-none _ _
 
-step-adds : (s : State) (x : Lexeme) (t : State) → step s x ≡ Some t → tokens_in t ≡ tokens_in s ++ x ∷ []
+pub step-adds : (s : State) (x : Lexeme) (t : State) → step s x ≡ Some t → tokens_in t ≡ tokens_in s ++ x ∷ []
 step-adds s x t e = moved-adds (seen x) s.spot s.heads s.frames t e ∙ ap (λ y. tokens_in s ++ y ∷ []) (token-shown x)
 
 run-adds : (xs : List Lexeme) (s t : State) → run step xs s ≡ Some t → tokens_in t ≡ tokens_in s ++ xs

@@ -1,6 +1,6 @@
 ghost use Rattle.parse_parts.specs.Steps.{first};
 ghost use Rattle.std.specs.Option.{option_copied};
-ghost use Rattle.std.specs.Prelude.{◌≡◌, [], ◌∷◌, MatchOption, OnOk, OnErr, IsTrue, ◌↔◌};
+ghost use Rattle.std.specs.Prelude.{◌≡◌, [], ◌∷◌, drop, length, MatchOption, OnOk, OnErr, IsTrue, ◌↔◌};
 
 use pc_terms::NoMemory;
 use std::alloc::Global;
@@ -38,10 +38,28 @@ impl<T> Stack<T> {
         self.items.is_empty()
     }
 
+    pub fn len(&self) -> usize
+        ensures { result ≡ length self.now }
+    {
+        self.items.len()
+    }
+
     pub fn top(&self) -> Option<&T>
         ensures { option_copied result ≡ first self.now }
     {
         self.items.as_slice().last()
+    }
+
+    /// The element at this depth, the top one at 0.
+    pub fn peek(&self, depth: usize) -> Option<&T>
+        ensures { option_copied result ≡ first (drop depth self.now) }
+    {
+        let items = self.items.as_slice();
+        if depth < items.len() {
+            Some(&items[items.len() - 1 - depth])
+        } else {
+            None
+        }
     }
 
     pub fn pop(&mut self) -> Option<T>

@@ -13,7 +13,7 @@ use pc_terms::{NoMemory, Span, Text, TreeKind};
 use positioned_trees::Name;
 use std::alloc::Global;
 
-fn counted(count: Count) -> Count
+pub fn counted(count: Count) -> Count
     ensures { result ≡ spec.next count }
 {
     match count {
@@ -24,13 +24,13 @@ fn counted(count: Count) -> Count
     }
 }
 
-fn no_label(alloc: Global) -> Text
+pub fn no_label(alloc: Global) -> Text
     ensures { result ≡ [] }
 {
     Text::from_ascii_vec(Vec::new(alloc))
 }
 
-fn alone(alloc: Global, tall: Option<Tall>) -> Result<Option<Kids>, NoMemory>
+pub fn alone(alloc: Global, tall: Option<Tall>) -> Result<Option<Kids>, NoMemory>
     ensures { IfOk result (λ kids. kids ≡ built.alone tall) }
 {
     joined(no_kids(alloc), tall)
@@ -51,7 +51,7 @@ fn path_type(path: Path) -> Option<Tall>
     node(kind, path.name.text, path.name.span, span, path.prefix)
 }
 
-fn path_term(path: Path) -> Option<Tall>
+pub fn path_term(path: Path) -> Option<Tall>
     ensures { result ≡ spec.path_term path }
 {
     let kind = if path.qualified {
@@ -82,7 +82,7 @@ fn group_tree(alloc: Global, group: Group) -> Option<Tall>
     }
 }
 
-fn spot_tree(alloc: Global, spot: Spot) -> Option<Tall>
+pub fn spot_tree(alloc: Global, spot: Spot) -> Option<Tall>
     ensures { result ≡ spec.spot_tree spot }
 {
     match spot {
@@ -93,7 +93,7 @@ fn spot_tree(alloc: Global, spot: Spot) -> Option<Tall>
     }
 }
 
-fn spot_end(spot: &Spot) -> u32
+pub fn spot_end(spot: &Spot) -> u32
     ensures { result ≡ spec.spot_end spot.now }
 {
     match spot {
