@@ -1,0 +1,16 @@
+pub mod Alive
+pub mod Along
+pub mod Begun
+pub mod Chains
+pub mod Derived
+pub mod Exact
+pub mod Good
+pub mod Joined
+pub mod Minus
+pub mod Moves
+pub mod Seen
+pub mod Shown
+pub mod Sides
+pub mod SimpleTypes
+pub mod Sound
+pub mod Waiting
