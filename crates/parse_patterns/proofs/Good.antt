@@ -121,7 +121,7 @@ proper-spot (AtPath path) d g e = (let h : named_pat (is_var_path path.first pat
 proper-spot (AtEnded x) d g e = (let h : x ≡ d = cc in subst ProperSPat h g)
 proper-spot _ d g e = cc
 
-settled-operators : (os : List Operation) (d : Pat3) → pat3_operators (settled os d) ≡ operators_of os ++ pat3_operators d
+pub settled-operators : (os : List Operation) (d : Pat3) → pat3_operators (settled os d) ≡ operators_of os ++ pat3_operators d
 settled-operators [] d = refl
 settled-operators (o ∷ os) d = settled-operators os (MoreOperands o.left o.operator d) ∙ sym (append_assoc (operators_of os) (o.operator ∷ []) (pat3_operators d))
 
@@ -479,6 +479,9 @@ typed-good t x s point es fs (Some u) e g i =
 step-at-good : (current : Current) (x : Lexeme) (es : List Earlier) (fs : List Frame) → GoodFrames fs → GoodCurrent es current → GoodOr (step_at current x es fs)
 step-at-good (InType s point t) x es fs g i = typed-good t x s point es fs (simple_step t x) refl g i
 step-at-good (InInfix b os spot) x es fs g i = moved-good (seen x) b os spot es fs g i
+
+pub step-good : (s : State) (x : Lexeme) (t : State) → Good s → step s x ≡ Some t → Good t
+step-good s x t g e = step-at-good s.current x s.earlier s.frames g.frames g.current t e
 
 pub run-good : (xs : List Lexeme) (s t : State) → run step xs s ≡ Some t → Good s → Good t
 run-good [] s t e g = (let same : s ≡ t = cc in subst Good same g)

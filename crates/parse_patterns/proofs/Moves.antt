@@ -78,7 +78,7 @@ fresh-shown None [] = refl
 fresh-shown None (o ∷ os) = refl
 fresh-shown (Some b) os = refl
 
-whole-shown : (s : derived.Spot) → spec.is_whole (spot_shown s) ≡ is_some (spat_of s)
+pub whole-shown : (s : derived.Spot) → spec.is_whole (spot_shown s) ≡ is_some (spat_of s)
 whole-shown derived.Begin = refl
 whole-shown (derived.AtWild place) = refl
 whole-shown (derived.AtPath path) = refl
@@ -202,7 +202,7 @@ ended-same y x None operand es fs e = refl
 ended-same y x (Some d) operand es fs e =
     ap (λ p. met (spec.may_end y (map frame_shown fs) x) (spec.ended y (map frame_shown fs) (earlier_shown es) p x)) (e d refl) ∙ ended-by-same y x d es fs
 
-some-infix : (b : Option derived.Binder) (os : List derived.Operation) (o : Option SPat) → is_some (infix_at b os o) ≡ is_some o
+pub some-infix : (b : Option derived.Binder) (os : List derived.Operation) (o : Option SPat) → is_some (infix_at b os o) ≡ is_some o
 some-infix b os None = refl
 some-infix b os (Some d) = refl
 
@@ -478,7 +478,7 @@ leaves-same type_symbol.Dot x t = refl
 leaves-same type_symbol.TypeWord x t = refl
 leaves-same type_symbol.Other x t = refl
 
-simple-shown : (t : types.State) → spec.is_simple (type_shown.shown t) ≡ is_some (simple_in t.frames t.heads t.spot)
+pub simple-shown : (t : types.State) → spec.is_simple (type_shown.shown t) ≡ is_some (simple_in t.frames t.heads t.spot)
 simple-shown t = go t.frames t.heads where
   go : (fs : List types.Frame) (hs : List types.Head)
       → (is_nil (map type_shown.frame_shown fs) && (is_nil (map type_shown.head_shown hs) && type_spec.is_whole (type_shown.spot_shown t.spot))) ≡ is_some (simple_in fs hs t.spot)
@@ -486,7 +486,7 @@ simple-shown t = go t.frames t.heads where
   go [] (h ∷ hs) = refl
   go (f ∷ fs) hs = refl
 
-some-typed : (s : derived.Subject) (p : Place) (o : Option SimpleType) → is_some (typed_at s p o) ≡ is_some o
+pub some-typed : (s : derived.Subject) (p : Place) (o : Option SimpleType) → is_some (typed_at s p o) ≡ is_some o
 some-typed s p None = refl
 some-typed s p (Some type) = refl
 

@@ -1,8 +1,7 @@
-use Rattle.std.proofs.Common.{ap, sym, ◌∙◌}
-use Rattle.source_grammar.specs.Patterns.{pat_tree}
-use Rattle.parse_patterns.proofs.Moves.{step-same}
-use Rattle.parse_patterns.proofs.Exact.{one-derivation, reads-patterns}
+use Rattle.parse_patterns.proofs.Unique.{one-tree, one-part}
+use Rattle.parse_patterns.proofs.Places.{part-at}
+use Rattle.parse_patterns.proofs.Loops.{goes_on}
 use Rattle.parse_patterns.proofs.laws.law_one_pattern_tree.Goals as goal
 
 pub returns : goal.returns
-returns c xs t u a b = a.built ∙ ap pat_tree (one-derivation a.derivation b.derivation a.proper b.proper (sym a.tokens ∙ b.tokens)) ∙ sym b.built
+returns c xs t u a b = one-tree xs t u a b
