@@ -25,7 +25,7 @@ use positioned_trees::Name;
 use scan_tokens::Token;
 use std::alloc::Global;
 
-fn nothing_yet(alloc: Global) -> Current
+pub fn nothing_yet(alloc: Global) -> Current
     ensures { result ≡ InInfix spec.nothing_yet }
 {
     Current::InInfix(Infix {

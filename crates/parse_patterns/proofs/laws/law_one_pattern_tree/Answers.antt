@@ -1,6 +1,4 @@
-use Rattle.parse_patterns.proofs.Unique.{one-tree, one-part}
-use Rattle.parse_patterns.proofs.Places.{part-at}
-use Rattle.parse_patterns.proofs.Loops.{goes_on}
+use Rattle.parse_patterns.proofs.Unique.{one-tree}
 use Rattle.parse_patterns.proofs.laws.law_one_pattern_tree.Goals as goal
 
 pub returns : goal.returns
