@@ -168,11 +168,11 @@ shown s = record { frames = map frame_shown s.frames; heads = map head_shown s.h
 abbrev pub end_of : List Lexeme → ℕ
 end_of xs = end_behind 0 xs
 
-end-behind : (e : ℕ) (xs : List Lexeme) (y : Lexeme) (ys : List Lexeme) → end_behind e (xs ++ y ∷ ys) ≡ end_behind y.place.span.end ys
+pub end-behind : (e : ℕ) (xs : List Lexeme) (y : Lexeme) (ys : List Lexeme) → end_behind e (xs ++ y ∷ ys) ≡ end_behind y.place.span.end ys
 end-behind e [] y ys = refl
 end-behind e (x ∷ xs) y ys = end-behind x.place.span.end xs y ys
 
-steps-end : (id : Id) (steps : List Step) → end_behind id.place.span.end (steps_tokens steps) ≡ (last_of id steps).place.span.end
+pub steps-end : (id : Id) (steps : List Step) → end_behind id.place.span.end (steps_tokens steps) ≡ (last_of id steps).place.span.end
 steps-end id [] = refl
 steps-end id (s ∷ steps) = steps-end s.id steps
 
@@ -181,16 +181,16 @@ named-ends (OfPath path) = steps-end path.first path.steps
 named-ends (Applied path o types c) = end-behind 0 (qual_id_tokens path) _ _ ∙ end-behind o.span.end (type_list_tokens types) _ []
 named-ends (Singleton path d w) = end-behind 0 (qual_id_tokens path) _ _
 
-spot-ends : (s : derived.Spot) (simple : SimpleType) → derived.simple_of s ≡ Some simple → end_of (derived.spot_tokens s) ≡ spec.spot_end (spot_shown s)
+pub spot-ends : (s : derived.Spot) (simple : SimpleType) → derived.simple_of s ≡ Some simple → end_of (derived.spot_tokens s) ≡ spec.spot_end (spot_shown s)
 spot-ends (derived.AtPath path) simple e = steps-end path.first path.steps
 spot-ends (derived.AtNamed named) simple e = named-ends named
 spot-ends (derived.AtTypes o types c) simple e = end-behind o.span.end (type_list_tokens types) _ []
 spot-ends _ simple e = cc
 
 -- tokens that begin with this one
-record Begins (x : Lexeme) (xs : List Lexeme) : Type 0 where
-  rest : List Lexeme
-  is : xs ≡ x ∷ rest
+pub record Begins (x : Lexeme) (xs : List Lexeme) : Type 0 where
+  pub rest : List Lexeme
+  pub is : xs ≡ x ∷ rest
 
 begins-append : (x : Lexeme) (xs ys : List Lexeme) → Begins x xs → Begins x (xs ++ ys)
 begins-append x xs ys b = record { rest = b.rest ++ ys; is = ap (λ zs. zs ++ ys) b.is }
@@ -200,7 +200,7 @@ named-begins (OfPath path) = record { rest = _; is = refl }
 named-begins (Applied path o types c) = record { rest = _; is = refl }
 named-begins (Singleton path d w) = record { rest = _; is = refl }
 
-simple-begins : (simple : SimpleType) → (x : Lexeme) × Begins x (simple_tokens simple)
+pub simple-begins : (simple : SimpleType) → (x : Lexeme) × Begins x (simple_tokens simple)
 simple-begins (Named named) = (id_token (first_id named), named-begins named)
 simple-begins (InParentheses o a c) = (open_round o, record { rest = _; is = refl })
 simple-begins (Pair o a p b c) = (open_round o, record { rest = _; is = refl })
@@ -263,7 +263,7 @@ group-shown o (MoreTypes a p (MoreTypes b q (LastType d))) c simple e =
     let h : Triple o a p b q d c ≡ simple = cc in node-kept kind.TupleType [] _ _ _ ∙ ap (λ s. kept (simple_tree s)) h
 group-shown o (MoreTypes a p (MoreTypes b q (MoreTypes d r types))) c simple e = cc
 
-spot-shown : (s : derived.Spot) (simple : SimpleType) → derived.simple_of s ≡ Some simple → spec.spot_tree (spot_shown s) ≡ kept (simple_tree simple)
+pub spot-shown : (s : derived.Spot) (simple : SimpleType) → derived.simple_of s ≡ Some simple → spec.spot_tree (spot_shown s) ≡ kept (simple_tree simple)
 spot-shown (derived.AtPath path) simple e = let h : Named (OfPath path) ≡ simple = cc in path-type path ∙ ap (λ s. kept (simple_tree s)) h
 spot-shown (derived.AtNamed named) simple e = let h : Named named ≡ simple = cc in ap (λ s. kept (simple_tree s)) h
 spot-shown (derived.AtTypes o types c) simple e = group-shown o types c simple e

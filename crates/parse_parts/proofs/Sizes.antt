@@ -15,28 +15,28 @@ use Rattle.source_grammar.specs.Lexemes.{Id, Step, QualId, steps_tokens, qual_id
 use Rattle.source_grammar.specs.Spans.{labelled, from_to}
 use Rattle.source_grammar.specs.Types.{WrittenType, SimpleType, NamedType, TypeList, FunOfNamed, FunOfNone, FunOfTypes, Simple, Named, InParentheses, Pair, Triple, OfPath, Applied, Singleton, LastType, MoreTypes, type_tokens, simple_tokens, named_tokens, type_list_tokens, type_tree, simple_tree, named_tree, type_list_trees, path_tree, path_type, path_type_tree, prefix_kids, before_last, steps_tree, select_tree, ident_tree}
 
-abbrev size : Tree → ℕ
+abbrev pub size : Tree → ℕ
 size tree = length (all_trees tree)
 
-abbrev sizes : List Tree → ℕ
+abbrev pub sizes : List Tree → ℕ
 sizes trees = length (flat_map all_trees trees)
 
-sizes-cons : (tree : Tree) (trees : List Tree) → sizes (tree ∷ trees) ≡ size tree + sizes trees
+pub sizes-cons : (tree : Tree) (trees : List Tree) → sizes (tree ∷ trees) ≡ size tree + sizes trees
 sizes-cons tree trees = length-append (all_trees tree) (flat_map all_trees trees)
 
-sizes-push : (trees : List Tree) (tree : Tree) → sizes (trees ++ tree ∷ []) ≡ sizes trees + size tree
+pub sizes-push : (trees : List Tree) (tree : Tree) → sizes (trees ++ tree ∷ []) ≡ sizes trees + size tree
 sizes-push [] tree = omega (arith, sizes-cons tree [])
 sizes-push (t ∷ trees) tree = omega (arith, sizes-cons t (trees ++ tree ∷ []), sizes-cons t trees, sizes-push trees tree)
 
 size-out : (tree : Tree) → size tree ≡ sizes (out-Tree tree).kids + 1
 size-out tree = ap length (all_trees-out tree) ∙ (omega arith)
 
-size-labelled : (k : TreeKind) (label : Bytes) (label_span span : Span) (kids : List Tree) → size (labelled k label label_span span kids) ≡ sizes kids + 1
+pub size-labelled : (k : TreeKind) (label : Bytes) (label_span span : Span) (kids : List Tree) → size (labelled k label label_span span kids) ≡ sizes kids + 1
 size-labelled k label label_span span kids = size-out (labelled k label label_span span kids) ∙ ap (λ x. sizes x.kids + 1) (out-roll-Tree _)
 
 -- ---- numbers
 
-abbrev IsCounted : Tree → Type 0
+abbrev pub IsCounted : Tree → Type 0
 IsCounted tree = (start : ℕ) → (numbered tree start).next ≡ start + size tree
 
 abbrev AreCounted : List Tree → Type 0
@@ -64,7 +64,7 @@ steps-size from (step ∷ steps) =
     let one = size-labelled kind.Select step.id.name step.id.place.span (from_to (out-Tree from).span step.id.place.span) (from ∷ []) in
     omega (arith, steps-size (select_tree from step.id) steps, one, sizes-cons from [])
 
-before-size : (from : Tree) (steps : List Step) → 1 ≤ size from → sizes (before_last from steps) + 1 ≤ size from + length (steps_tokens steps)
+pub before-size : (from : Tree) (steps : List Step) → 1 ≤ size from → sizes (before_last from steps) + 1 ≤ size from + length (steps_tokens steps)
 before-size from [] some = omega arith
 before-size from (step ∷ []) some = omega (arith, sizes-cons from [])
 before-size from (step ∷ next ∷ steps) some =
@@ -72,7 +72,7 @@ before-size from (step ∷ next ∷ steps) some =
     let more : 1 ≤ size (select_tree from step.id) = omega (arith, one) in
     omega (arith, before-size (select_tree from step.id) (next ∷ steps) more, one, sizes-cons from [])
 
-ident-size : (id : Id) → size (ident_tree id) ≡ 1
+pub ident-size : (id : Id) → size (ident_tree id) ≡ 1
 ident-size id = (let one = size-labelled kind.Ident id.name id.place.span id.place.span [] in omega arith)
 
 path-size : (path : QualId) → size (path_tree path) ≤ length (qual_id_tokens path)
@@ -105,7 +105,7 @@ mutual
       omega (arith, list-size types, type-size result, sizes-push (type_list_trees types) (type_tree result), length-append (type_list_tokens types) (close_round closing ∷ arrow_token arrow ∷ type_tokens result))
   type-size (Simple simple) = simple-size simple
 
-  simple-size : (d : SimpleType) → size (simple_tree d) ≤ length (simple_tokens d)
+  pub simple-size : (d : SimpleType) → size (simple_tree d) ≤ length (simple_tokens d)
   simple-size (Named named) = named-size named
   simple-size (InParentheses opening type closing) = omega (arith, type-size type, length-append (type_tokens type) (close_round closing ∷ []))
   simple-size (Pair opening a p b closing) =

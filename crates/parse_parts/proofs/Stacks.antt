@@ -1,7 +1,7 @@
 -- A stack is its elements in the other order.
-use Rattle.std.proofs.Common.{◌≡◌, ℕ, ◌+◌, ◌-◌, ◌<◌, List, ◌∷◌, length, get_or, drop, drop-cons, Option, Some, None, refl, ap, sym, ◌∙◌, subst, arith}
+use Rattle.std.proofs.Common.{◌≡◌, ℕ, ◌-◌, ◌<◌, List, length, get_or, drop, drop-cons, Some, ap, sym, ◌∙◌, subst}
 use Rattle.std.specs.Prelude.{reverse}
-use Rattle.std.proofs.lemmas.List.{get_or-reverse, length-reverse, drop_all}
+use Rattle.std.proofs.lemmas.List.{get_or-reverse, length-reverse}
 use Rattle.parse_parts.specs.Steps.{first}
 
 pub peeked : {X : Type 0} (xs : List X) (k : ℕ) (d : X) → k < length xs → first (drop k (reverse xs)) ≡ Some (get_or xs (length xs - 1 - k) d)

@@ -13,5 +13,5 @@ pub mod words;
 
 pub use laws::{law_one_part, law_one_tree};
 pub use parts::Part;
-pub use reader::parse_type;
+pub use reader::{parse_type, part_of};
 pub use symbols::{Symbol, read_symbol};

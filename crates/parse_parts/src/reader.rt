@@ -98,8 +98,8 @@ fn state_behind(
     }
 }
 
-// The part whose tree this is, with the trees' numbers.
-fn part_of(alloc: Global, tall: Option<Tall>, behind: u32) -> Part
+/// The part whose tree this is, with the trees' numbers.
+pub fn part_of(alloc: Global, tall: Option<Tall>, behind: u32) -> Part
     requires low { ForSome tall (λ tall. height tall.tree ≤ max_height) }
     requires few { ForSome tall (λ tall. (numbered tall.tree 0).next ≤ max_number) }
     ensures { result ≡ spec.part_of tall behind }

@@ -1,4 +1,4 @@
-use Rattle.std.proofs.Common.{◌≡◌, ◌<◌, length, get_or, ◌-◌, drop, ap, sym, ◌∙◌, subst, Some}
+use Rattle.std.proofs.Common.{◌<◌, length, get_or, ◌-◌, drop, ap, sym, ◌∙◌, subst, Some}
 use Rattle.parse_parts.specs.Steps.{first}
 use Rattle.parse_parts.proofs.Stacks.{peeked}
 use Rattle.parse_parts.proofs.stack.Stack.peek.Goals as goal
