@@ -6,7 +6,7 @@ use Rattle.report_hub.specs.Telling.{Finding, ReporterState, WasTold}
 use Rattle.report_hub.specs.Hub.{OfSlot, OfEach, IsTold, IsToldMost}
 use Rattle.report_hub.specs.Told.{Nothing, Keeps, LeavesOut, WasToldMost}
 
-WasToldMost-none : (state : ReporterState) → WasToldMost [] state state
+pub WasToldMost-none : (state : ReporterState) → WasToldMost [] state state
 WasToldMost-none state = record {
   kept = [];
   left = 0;
@@ -20,14 +20,14 @@ rose_more : (left before now after : ℕ) → min (before + left) (2 ^ 64 - 1) �
 rose_more left before now after most one = omega arith
 
 WasToldMost-more : (findings : List Finding) (finding : Finding) (old now new : ReporterState) → WasToldMost findings old now → WasTold finding now new → WasToldMost (findings ++ finding ∷ []) old new
-WasToldMost-more findings finding old now new most one = elim one [
-  | inl made ↦ record {
+WasToldMost-more findings finding old now new most one = elim one.0 [
+  | inl once ↦ record {
     kept = most.kept ++ finding ∷ [];
     left = most.left;
     in_order = Keeps findings most.kept most.left finding most.in_order;
-    told = made.0 ∙ ap (λ front. front ++ finding ∷ []) most.told ∙ append_assoc old.told most.kept (finding ∷ []);
-    rose = omega (arith, most.rose, made.1);
-    never_falls = omega (arith, most.never_falls, made.1);
+    told = once.0 ∙ ap (λ front. front ++ finding ∷ []) most.told ∙ append_assoc old.told most.kept (finding ∷ []);
+    rose = omega (arith, most.rose, one.1);
+    never_falls = omega (arith, most.never_falls, one.1);
   }
   | inr failed ↦ record {
     kept = most.kept;
@@ -35,7 +35,7 @@ WasToldMost-more findings finding old now new most one = elim one [
     in_order = LeavesOut findings most.kept most.left finding most.in_order;
     told = failed.0 ∙ most.told;
     rose = rose_more most.left old.faults now.faults new.faults most.rose failed.1;
-    never_falls = omega (arith, most.never_falls, failed.2);
+    never_falls = omega (arith, most.never_falls, one.1);
   }
 ]
 
