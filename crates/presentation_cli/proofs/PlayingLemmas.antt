@@ -1,9 +1,9 @@
 -- A session stays in step with its engine.
-use Rattle.std.proofs.Common.{◌≡◌, ◌+◌, ◌≤◌, true, false, cond, All, List, [], ◌∷◌, ◌++◌, length, length-append, refl, sym, ap, ◌∙◌, arith}
+use Rattle.std.proofs.Common.{◌≡◌, ◌+◌, ◌≤◌, ◌&&◌, true, false, cond, All, List, [], ◌∷◌, ◌++◌, length, length-append, refl, sym, ap, ◌∙◌, arith}
 use Rattle.std.specs.List.{AllByRecursion}
 use Rattle.std.proofs.lemmas.List.Elements.{All-from_recursion}
 use Rattle.ask_history.specs.Sources.{Bytes, Sources, is_mutation, mutated}
-use Rattle.ask_history.specs.Engine.{EngineState, HasFileSizes, is_served, fresh_state}
+use Rattle.ask_history.specs.Engine.{EngineState, HasFileSizes, has_file_names, is_file_name, fresh_state}
 use Rattle.ask_history.specs.Journal.{accepted, after}
 use Rattle.ask_history.specs.declared.calls.Call.{Call}
 use Rattle.ask_history.specs.declared.calls.Call.TheVariants.{Reload, Remove, TypeAt, MembersAt, ScopeAt, LinkAt, Structure, LoadedTyped}
@@ -31,15 +31,17 @@ in_step_with_call answer_of state state' journal answers call mark given in_step
 
 -- ---- calls that can be played
 
-pub is_served-playable : (call : Call) → CanPlay call → is_served call ≡ true
-is_served-playable (Reload entries) can = refl
-is_served-playable (TypeAt file offset) can = refl
-is_served-playable (Remove names) can = absurd can
-is_served-playable (MembersAt file offset) can = absurd can
-is_served-playable (ScopeAt file offset) can = absurd can
-is_served-playable (LinkAt file offset) can = absurd can
-is_served-playable (Structure file) can = absurd can
-is_served-playable (LoadedTyped file) can = absurd can
+pub has_file_names-playable : (call : Call) → CanPlay call → has_file_names call ≡ true
+has_file_names-playable (Reload []) can = absurd can
+has_file_names-playable (Reload (entry ∷ [])) can = ap (λ b. b && true) can.1
+has_file_names-playable (Reload (entry ∷ next ∷ entries)) can = absurd can
+has_file_names-playable (TypeAt file offset) can = can
+has_file_names-playable (Remove names) can = absurd can
+has_file_names-playable (MembersAt file offset) can = absurd can
+has_file_names-playable (ScopeAt file offset) can = absurd can
+has_file_names-playable (LinkAt file offset) can = absurd can
+has_file_names-playable (Structure file) can = absurd can
+has_file_names-playable (LoadedTyped file) can = absurd can
 
 one_file : (entry : Bytes × Bytes) → length entry.1 ≤ 262144 → All (λ e. length e.1 ≤ 262144) (entry ∷ [])
 one_file entry small =
@@ -48,7 +50,7 @@ one_file entry small =
 
 pub HasFileSizes-playable : (call : Call) → CanPlay call → HasFileSizes call
 HasFileSizes-playable (Reload []) can = absurd can
-HasFileSizes-playable (Reload (entry ∷ [])) can = one_file entry can
+HasFileSizes-playable (Reload (entry ∷ [])) can = one_file entry can.0
 HasFileSizes-playable (Reload (entry ∷ next ∷ entries)) can = absurd can
 HasFileSizes-playable (TypeAt file offset) can = tt
 HasFileSizes-playable (Remove names) can = tt

@@ -1,5 +1,6 @@
 -- Which schedules are played so far.
 use Rattle.std.specs.Prelude.{ℕ, ◌+◌, Bool, true, false, ◌&&◌, ◌==◌, if◌then◌else◌, List, [], ◌∷◌, Option, Some, None, Result, Ok, Err}
+use Rattle.ask_history.specs.Engine.{is_file_name}
 use Rattle.ask_history.specs.declared.calls.Call.{Call}
 use Rattle.ask_history.specs.declared.calls.Call.TheVariants.{Reload, TypeAt}
 use Rattle.ask_history.specs.declared.script.Order.{Order}
@@ -10,10 +11,10 @@ use Rattle.script_text.specs.Reading.{lines_read}
 use Rattle.script_text.specs.Numbering.{line_number}
 use Rattle.presentation_cli.specs.Words.{Bytes}
 
--- a reload of one file, or the tree at an offset
+-- a reload of one file, or the tree at an offset, of a name that a file may have
 abbrev pub is_played_call : Call → Bool
-is_played_call (Reload (entry ∷ [])) = true
-is_played_call (TypeAt name offset) = true
+is_played_call (Reload (entry ∷ [])) = is_file_name entry.0
+is_played_call (TypeAt name offset) = is_file_name name
 is_played_call _ = false
 
 abbrev pub is_played_order : Order → Bool

@@ -2,7 +2,7 @@
 use Rattle.std.specs.Prelude.{◌≡◌, ◌≤◌, ◌+◌, ℕ, true, false, nat_lt, List, ◌∷◌, [], ◌++◌, length, IsTrue, Result, Ok, Err}
 use Rattle.std.specs.List.{list_all}
 use Rattle.ask_history.specs.Sources.{Sources}
-use Rattle.ask_history.specs.Engine.{EngineState}
+use Rattle.ask_history.specs.Engine.{EngineState, is_file_name}
 use Rattle.ask_history.specs.Journal.{accepted, is_closed, is_cancelled, is_settled, tickets, all_settled, after, replies}
 use Rattle.ask_history.specs.Legal.{is_legal}
 use Rattle.ask_history.specs.declared.calls.Call.{Call}
@@ -41,13 +41,13 @@ HasPlayed (Ok done) old call new = (mark : Mark) × (new ≡ with_call old call 
 HasPlayed (Err e) old call new = new ≡ old
 
 -- A call that a schedule may have so far: a reload of one file that is no longer than a file may be, or a question for
--- the tree at an offset.
+-- the tree at an offset, of a name that a file may have.
 abbrev pub CanPlay : Call → Type 0
 CanPlay (Reload []) = ⊥
-CanPlay (Reload (entry ∷ [])) = length entry.1 ≤ 262144
+CanPlay (Reload (entry ∷ [])) = (length entry.1 ≤ 262144) × (is_file_name entry.0 ≡ true)
 CanPlay (Reload (entry ∷ next ∷ entries)) = ⊥
 CanPlay (Remove names) = ⊥
-CanPlay (TypeAt file offset) = Unit {0}
+CanPlay (TypeAt file offset) = is_file_name file ≡ true
 CanPlay (MembersAt file offset) = ⊥
 CanPlay (ScopeAt file offset) = ⊥
 CanPlay (LinkAt file offset) = ⊥

@@ -18,6 +18,6 @@ abbrev pub answer_behind : (Sources → Call → Answer) → Sources → Call �
 answer_behind answer_of files call mark.Done = if is_mutation call then answer.Done else answer_of files call
 answer_behind answer_of files call mark.NoMemory = answer.NoMemory
 
--- an engine to which a call can be fed: it has these sources, no open call and nothing staged
+-- an engine to which a call can be fed: it has these sources, no open call, nothing staged and nothing checked
 abbrev pub ready : Sources → EngineState
-ready files = record { sources = files; asks = []; staged = None }
+ready files = record { sources = files; asks = []; staged = None; checked = []; skipped = [] }

@@ -9,6 +9,7 @@ ghost use Rattle.pc_terms.specs.Ascii.{is_ascii, all_ascii};
 ghost use Rattle.pc_terms.specs.Bytes.{max_source_bytes};
 ghost use Rattle.presentation_cli.specs.Input as spec;
 ghost use Rattle.std.specs.List.{prefix_len, list_all};
+ghost use Rattle.ask_history.specs.Engine.{is_file_name};
 ghost use Rattle.presentation_cli.specs.Played.{is_played, is_played_order, lines_played};
 ghost use Rattle.presentation_cli.specs.Faults.{ReadsCount, IsNoFault, NamesSuch, IsPathOf, IsPathIn, IsReadBy};
 
@@ -162,7 +163,8 @@ fn call_of<F: Files>(
 }
 
 fn reload_of(alloc: Global, name: &Text, text: Text) -> Result<Call, Ending>
-    requires { length text ≤ max_source_bytes }
+    requires small { length text ≤ max_source_bytes }
+    requires named { is_file_name name.now ≡ true }
     ensures call { IfOk result (λ call. call ≡ spec.reload_call name.now text) }
     ensures can { IfOk result CanPlay }
     ensures no_memory { IfErr result (λ e. e ≡ ending.NoMemory) }

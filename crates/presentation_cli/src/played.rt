@@ -2,23 +2,34 @@
 
 ghost use Rattle.std.specs.Prelude.{◌≡◌, ◌≤◌, ◌+◌, true, length, IfOk};
 ghost use Rattle.std.specs.List.{list_all};
+ghost use Rattle.ask_history.specs.Engine.{is_file_name};
 ghost use Rattle.script_text.specs.Refusing.{IsReading};
 ghost use Rattle.presentation_cli.specs.Played as spec;
 
 use ask_history::{Call, Line, Order, Schedule, Script};
-use pc_terms::Row;
+use pc_terms::{Row, Text};
 use script_text::{ScriptRefused, line_number, read_schedule};
 use std::alloc::Global;
+
+// A name that a file may have.
+fn is_file_name(name: &Text) -> bool
+    ensures { result ≡ is_file_name name.now }
+{
+    match name.as_str().as_bytes() {
+        [] => false,
+        [first, ..] => *first != b'<',
+    }
+}
 
 fn is_played_call(call: &Call) -> bool
     ensures { result ≡ spec.is_played_call call.now }
 {
     match call {
         Call::Reload(entries) => match entries.as_slice() {
-            [_] => true,
+            [(name, _)] => is_file_name(name),
             _ => false,
         },
-        Call::TypeAt(_, _) => true,
+        Call::TypeAt(name, _) => is_file_name(name),
         _ => false,
     }
 }

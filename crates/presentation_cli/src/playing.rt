@@ -4,7 +4,7 @@ ghost use Rattle.std.specs.Prelude.{◌≡◌, ◌∷◌, ◌++◌, ◌<◌, ◌
 ghost use Rattle.ask_history.specs.Sources.{mutated};
 ghost use Rattle.ask_history.specs.Journal.{accepted, after, out_of_memory};
 ghost use Rattle.ask_history.specs.Plain.{plain_journal};
-ghost use Rattle.ask_history.specs.Engine.{HasFileSizes, is_served, fresh_state};
+ghost use Rattle.ask_history.specs.Engine.{HasFileSizes, has_file_names, fresh_state};
 ghost use Rattle.presentation_cli.specs.Playing.{IsInStep, HasPlayed, CanPlayAll};
 
 use crate::serving::serve;
@@ -23,7 +23,7 @@ pub struct Played {
 // Accepts a call, has it served, and settles it. The room for both events is made first.
 fn play_call<N: Engine>(engine: &mut N, played: &mut Played, call: Call) -> Result<(), NoMemory>
     requires in_step { IsInStep N.answer_of (N.state engine.old) played.old.events.items played.old.answers.items }
-    requires served { is_served call ≡ true }
+    requires names { has_file_names call ≡ true }
     requires sizes { HasFileSizes call }
     requires few { length (mutated (after played.old.events.items) call) < 2 ^ 31 }
     requires counted { accepted played.old.events.items < 2 ^ 32 }

@@ -2,7 +2,7 @@
 
 ghost use Rattle.std.specs.Prelude.{◌≡◌, ◌∷◌, ◌<◌, ◌^◌, true, [], None, Some, length, IfSome};
 ghost use Rattle.ask_history.specs.Sources.{Sources, mutated};
-ghost use Rattle.ask_history.specs.Engine.{EngineState, HasFileSizes, is_served};
+ghost use Rattle.ask_history.specs.Engine.{EngineState, HasFileSizes, has_file_names};
 ghost use Rattle.presentation_cli.specs.Serving.{ready, sources_behind, answer_behind};
 
 use ask_history::{Answer, Call, Effect, Engine, Fed, Mark, Turn};
@@ -29,7 +29,7 @@ fn turns<N: Engine>(engine: &mut N, ticket: u64, call: &Call) -> Option<Answer>
 /// Feeds a call to an engine, has it answered and settles it.
 pub fn serve<N: Engine>(engine: &mut N, ticket: u64, call: &Call) -> (Mark, Answer)
     requires ready { N.state engine.old ≡ ready (N.state engine.old).sources }
-    requires served { is_served call.now ≡ true }
+    requires names { has_file_names call.now ≡ true }
     requires sizes { HasFileSizes call.now }
     requires few { length (mutated (N.state engine.old).sources call.now) < 2 ^ 31 }
     ensures state { N.state engine.new ≡ ready (sources_behind (N.state engine.old).sources call.now result.0) }
