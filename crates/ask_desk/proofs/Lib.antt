@@ -4,3 +4,4 @@ pub mod Shutdown
 pub mod Waiting
 pub mod Others
 pub mod Working
+pub mod Crossing
