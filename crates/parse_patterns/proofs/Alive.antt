@@ -1,10 +1,10 @@
 -- A Simple can come of what was read of one.
-use Rattle.std.proofs.Common.{◌≡◌, Bool, true, false, ◌&&◌, List, [], ◌∷◌, ◌++◌, Option, Some, None, refl, ap, sym, ◌∙◌, append-nil, subst}
+use Rattle.std.proofs.Common.{◌≡◌, Bool, true, false, ◌&&◌, List, [], ◌∷◌, Option, Some, None, refl, ap, ◌∙◌}
 use Rattle.scan_tokens.specs.declared.tokens.Newline.TheVariants.{No}
 use Rattle.reading_machines.specs.Machines.{run, onward}
 use Rattle.source_grammar.specs.Lexemes.{Place, Lexeme, close_round, close_square, Arrow, arrow_token, Id, id_token, QualId}
-use Rattle.source_grammar.specs.Types.{WrittenType, SimpleType, Simple, Named, NamedType, OfPath, Applied, LastType}
-use Rattle.parse_parts.proofs.Seen.{AnId, AnArrow, ClosesRound, seen, seen-id, seen-arrow}
+use Rattle.source_grammar.specs.Types.{WrittenType, SimpleType, Simple, Named, OfPath, Applied, LastType}
+use Rattle.parse_parts.proofs.Seen.{seen, seen-id, seen-arrow}
 use Rattle.parse_parts.proofs.Derived as derived
 use Rattle.parse_parts.proofs.Derived.{Head, NamedHead, NoneHead, TypesHead, Spot, Begin, AtPath, AtDot, AtNamed, AtNone, AtTypes, Bracket, Round, Square, Done, Frame, State, settled, listed, longer, simple_of, head_of, step}
 use Rattle.parse_parts.proofs.Along.{at, id-step, arrow-step}

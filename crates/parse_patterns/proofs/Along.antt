@@ -5,19 +5,19 @@ use Rattle.reading_machines.specs.Machines.{run, onward}
 use Rattle.scan_tokens.specs.declared.tokens.Newline.{Newline}
 use Rattle.scan_tokens.specs.declared.tokens.Newline.TheVariants.{No}
 use Rattle.source_grammar.specs.Lexemes.{Place, Lexeme, open_round, close_round, comma, dot, underscore, colon, at_sign, bar, minus, Id, id_token, Step, QualId, steps_tokens, qual_id_tokens, Literal, IntLiteral, LongLiteral, CharLiteral, StringLiteral, TrueLiteral, FalseLiteral, NullLiteral, literal_token, literal_place, Number, number_token}
-use Rattle.source_grammar.specs.Newlines.{is_near, newline_before}
-use Rattle.source_grammar.specs.Patterns.{Pat, Pat1, Pat3, SPat, PatList, LastAlternative, MoreAlternatives, TypedVar, TypedWild, BoundPat, InfixPat, LastOperand, MoreOperands, WildPat, VarPat, LiteralPat, MinusPat, PathPat, CallPatOfNone, CallPat, UnitPat, PatInParentheses, PairPat, TriplePat, LastPat, MorePats, pat_tokens, pat1_tokens, pat3_tokens, spat_tokens, pat_list_tokens, is_var, is_var_path, is_bar, pat3_operators, ProperPat, ProperPat1, ProperPat3, ProperSPat, ProperPatList}
+use Rattle.source_grammar.specs.Newlines.{newline_before}
+use Rattle.source_grammar.specs.Patterns.{Pat, Pat1, Pat3, SPat, PatList, LastAlternative, MoreAlternatives, TypedVar, TypedWild, BoundPat, InfixPat, LastOperand, MoreOperands, WildPat, VarPat, LiteralPat, MinusPat, PathPat, CallPatOfNone, CallPat, UnitPat, PatInParentheses, PairPat, TriplePat, LastPat, MorePats, pat_tokens, pat1_tokens, pat3_tokens, spat_tokens, pat_list_tokens, is_var, is_bar, pat3_operators, ProperPat, ProperPat1, ProperPat3, ProperSPat, ProperPatList}
 use Rattle.source_grammar.specs.Precedence.{are_of_one_side}
-use Rattle.source_grammar.specs.Types.{SimpleType, Named, InParentheses, Pair, Triple, OfPath, Applied, Singleton, simple_tokens}
+use Rattle.source_grammar.specs.Types.{SimpleType, Named, OfPath, simple_tokens}
 use Rattle.parse_parts.proofs.Along as types_along
 use Rattle.parse_parts.proofs.Along.{simple_spot, simple-there}
 use Rattle.parse_parts.proofs.Derived as types
 use Rattle.parse_parts.proofs.Derived.{longer}
 use Rattle.parse_patterns.specs.Names.{is_minus}
 use Rattle.parse_patterns.specs.Steps.{is_no}
-use Rattle.parse_patterns.proofs.Derived.{Operation, Binder, Done, Earlier, Spot, Begin, AtWild, AtPath, AtDot, AtEnded, Subject, VarSubject, WildSubject, Current, InType, InInfix, Bracket, Call, Group, GroupOne, GroupTwo, Frame, State, settled, bound, typed, alternated, listed, named_pat, spat_of, simple_in, typed_at, infix_at, alternative_at, pat_read, may_stand, is_fresh, fits, when, at, fresh, frame_of, ended_at, parted, closed, ended, operated, behind, named, numbered, is_minus_path, moved, moved_in, shut, step, barred, has_none}
+use Rattle.parse_patterns.proofs.Derived.{Operation, Binder, Done, Earlier, Spot, Begin, AtWild, AtPath, AtDot, AtEnded, Subject, VarSubject, WildSubject, Current, InType, InInfix, Call, Group, GroupOne, GroupTwo, Frame, State, settled, bound, alternated, listed, named_pat, spat_of, simple_in, typed_at, infix_at, alternative_at, pat_read, may_stand, when, at, fresh, frame_of, ended_at, parted, closed, ended, operated, behind, named, is_minus_path, moved, moved_in, shut, step, barred, has_none}
 use Rattle.parse_patterns.proofs.Minus.{minus-var}
-use Rattle.parse_patterns.proofs.Seen.{Seen, AnId, ANumber, AComma, ClosesRound, seen, seen-id, seen-number}
+use Rattle.parse_patterns.proofs.Seen.{AnId, AComma, ClosesRound, seen, seen-id, seen-number}
 use Rattle.parse_patterns.proofs.Sides.{operators_of, side-fits}
 use Rattle.parse_patterns.proofs.SimpleTypes.{simple_step, type_begun, simple-runs}
 

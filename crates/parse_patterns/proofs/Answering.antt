@@ -1,5 +1,5 @@
 -- What the reader answers, in the words of the grammar.
-use Rattle.std.proofs.Common.{◌≡◌, true, Bool, ◌&&◌, List, [], ◌∷◌, map, Option, Some, None, refl, ap, sym, ◌∙◌, append-nil}
+use Rattle.std.proofs.Common.{◌≡◌, true, List, [], ◌∷◌, Option, Some, None, refl, ap, sym, ◌∙◌, append-nil}
 use Rattle.reading_machines.specs.Machines.{run, reading, reading_of}
 use Rattle.reading_machines.specs.Parts.{anything}
 use Rattle.reading_machines.proofs.Images.{pictured}
@@ -14,11 +14,11 @@ use Rattle.parse_patterns.specs.Reading.{begun, is_ended, reader}
 use Rattle.parse_patterns.specs.Steps.{pattern_at, with_earlier}
 use Rattle.parse_patterns.proofs.Derived as derived
 use Rattle.parse_patterns.proofs.Derived.{spat_of, simple_in, alternative_at, pat_read}
-use Rattle.parse_patterns.proofs.Exact.{Whole, whole-is}
+use Rattle.parse_patterns.proofs.Exact.{whole-is}
 use Rattle.parse_patterns.proofs.Good.{Good, GoodCurrent, settled-operators, step-good, run-good, start-good}
 use Rattle.parse_patterns.proofs.Moves.{whole-shown, some-infix, simple-shown, some-typed, step-same}
 use Rattle.parse_patterns.proofs.Pictured.{reading-pictured-where}
-use Rattle.parse_patterns.proofs.Shown.{current_shown, earlier_shown, frame_shown, shown, OneSide, alternative-shown, pattern-shown}
+use Rattle.parse_patterns.proofs.Shown.{current_shown, earlier_shown, shown, OneSide, alternative-shown, pattern-shown}
 use Rattle.parse_patterns.proofs.Sides.{operators_of}
 
 ended-shown : (c : derived.Current) → is_ended (current_shown c) ≡ is_some (alternative_at c)

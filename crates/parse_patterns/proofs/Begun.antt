@@ -1,9 +1,8 @@
 -- Each derivation begins with a token, which is all that a newline before it tells.
-use Rattle.std.proofs.Common.{◌≡◌, Bool, true, false, List, [], ◌∷◌, ◌++◌, Option, Some, None, refl, ap, sym, ◌∙◌, append_assoc, subst}
-use Rattle.source_grammar.specs.Lexemes.{Place, Lexeme, open_round, underscore, minus, Id, id_token, QualId, qual_id_tokens, literal_token}
-use Rattle.source_grammar.specs.Newlines.{is_near, newline_before}
+use Rattle.std.proofs.Common.{◌≡◌, Bool, true, List, [], ◌∷◌, ◌++◌, Option, refl, ap, sym, ◌∙◌}
+use Rattle.source_grammar.specs.Lexemes.{Lexeme}
 use Rattle.source_grammar.specs.Patterns.{Pat, Pat1, Pat3, SPat, LastAlternative, MoreAlternatives, TypedVar, TypedWild, BoundPat, InfixPat, LastOperand, MoreOperands, WildPat, VarPat, LiteralPat, MinusPat, PathPat, CallPatOfNone, CallPat, UnitPat, PatInParentheses, PairPat, TriplePat, pat_tokens, pat1_tokens, pat3_tokens, spat_tokens}
-use Rattle.parse_patterns.proofs.Derived.{Operation, Binder, Earlier, Bracket, Call, Group, GroupOne, GroupTwo, may_stand, operations_tokens, binder_tokens, bracket_tokens}
+use Rattle.parse_patterns.proofs.Derived.{Operation, Binder, Earlier, Bracket, Call, Group, GroupOne, GroupTwo, may_stand, bracket_tokens}
 
 -- tokens that begin with this one
 pub record Begins (x : Lexeme) (xs : List Lexeme) : Type 0 where

@@ -1,17 +1,16 @@
 -- Operators that are joined with trees as far as these are kept make what they make with the trees themselves.
-use Rattle.std.proofs.Common.{◌≡◌, ℕ, zero, suc, ◌+◌, ◌<◌, nat_lt, Bool, true, false, ◌&&◌, if◌then◌else◌, List, [], ◌∷◌, ◌++◌, Option, refl, ap, sym, ◌∙◌, append_assoc, arith}
+use Rattle.std.proofs.Common.{◌≡◌, ℕ, zero, suc, ◌<◌, nat_lt, Bool, true, false, ◌&&◌, if◌then◌else◌, List, [], ◌∷◌, ◌++◌, Option, refl, ap, sym, ◌∙◌, append_assoc, arith}
 use Rattle.std.specs.Prelude.{not, ◌||◌, ◌==◌}
 use Rattle.std.proofs.lemmas.Bool.Decides.{nat_tests}
-use Rattle.pc_terms.specs.declared.problems.Span.{Span}
 use Rattle.pc_terms.specs.declared.tree_kinds.TreeKind.TheVariants as kind
 use Rattle.positioned_trees.specs.declared.trees.Tree.{Tree}
 use Rattle.source_grammar.specs.Lexemes.{Lexeme, Id, id_token}
-use Rattle.source_grammar.specs.Patterns.{Pat3, SPat, LastOperand, MoreOperands, pat3_tokens, spat_tokens, pat3_operators, join_patterns, operand_of, pat3_chain, spat_tree}
+use Rattle.source_grammar.specs.Patterns.{Pat3, SPat, LastOperand, MoreOperands, spat_tokens, pat3_operators, join_patterns, pat3_chain, spat_tree}
 use Rattle.source_grammar.specs.Precedence as grammar
 use Rattle.source_grammar.specs.Precedence.{Chain, precedence, is_right, are_of_one_side, after_left, joined_right, joined_at, joined_from, joined}
 use Rattle.source_grammar.specs.Spans.{span_of}
 use Rattle.parse_parts.specs.declared.built.Tall.{Tall}
-use Rattle.parse_parts.proofs.Kept.{kept, kept_all, joined-kept, alone-kept, node-kept}
+use Rattle.parse_parts.proofs.Kept.{kept, joined-kept, alone-kept, node-kept}
 use Rattle.parse_parts.proofs.Shown.{end_of, end-behind}
 use Rattle.parse_parts.specs.Built as built
 use Rattle.parse_parts.specs.Built.{alone, node}
@@ -20,11 +19,10 @@ use Rattle.parse_patterns.specs.declared.states.Operand.{Operand}
 use Rattle.parse_patterns.specs.declared.states.Operation.{Operation}
 use Rattle.parse_patterns.specs.Operators.{over, goes_first, folded, fits, same_side}
 use Rattle.parse_patterns.specs.Operators as spec
-use Rattle.parse_patterns.proofs.Begun.{Begins, begins-append, Some_begins, some-append, some-behind, spat-begins}
+use Rattle.parse_patterns.proofs.Begun.{Begins, begins-append, Some_begins, some-behind, spat-begins}
 use Rattle.parse_patterns.proofs.Derived as derived
 use Rattle.parse_patterns.proofs.Derived.{settled, operations_tokens}
 use Rattle.parse_patterns.proofs.Joined.{Piece, Pieces, put, join_kept, pushed, yard, ids_of, yard-joined}
-use Rattle.parse_patterns.proofs.Sides.{operators_of}
 use Rattle.parse_patterns.proofs.Waiting.{fits-over}
 
 -- ---- trees as far as they are kept

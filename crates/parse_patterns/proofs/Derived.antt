@@ -1,7 +1,6 @@
 -- The machine that reads patterns, over the derivations that the tokens so far are parts of.
-use Rattle.std.proofs.Common.{ℕ, Bool, true, false, ◌&&◌, if◌then◌else◌, nat_lt, List, [], ◌∷◌, ◌++◌, Option, Some, None, codes}
+use Rattle.std.proofs.Common.{Bool, true, false, ◌&&◌, if◌then◌else◌, nat_lt, List, [], ◌∷◌, ◌++◌, Option, Some, None}
 use Rattle.std.specs.Prelude.{not, ◌||◌, ◌==◌}
-use Rattle.std.specs.Str.{bytes_eq}
 use Rattle.reading_machines.specs.Machines.{Machine}
 use Rattle.scan_tokens.specs.declared.tokens.Newline.{Newline}
 use Rattle.source_grammar.specs.Lexemes.{Place, Lexeme, open_round, comma, dot, underscore, colon, at_sign, bar, Id, id_token, QualId, qual_id_tokens, Number, literal_place}

@@ -1,22 +1,21 @@
 -- The machine reads exactly the patterns, and each of its states can still become one.
-use Rattle.std.proofs.Common.{◌≡◌, Bool, true, false, ◌&&◌, List, [], ◌∷◌, ◌++◌, Option, Some, None, refl, ap, sym, ◌∙◌, append-nil, subst}
+use Rattle.std.proofs.Common.{◌≡◌, true, List, [], ◌∷◌, ◌++◌, Option, Some, None, refl, ap, sym, ◌∙◌, append-nil, subst}
 use Rattle.reading_machines.specs.Machines.{run, onward}
 use Rattle.reading_machines.specs.Parts.{CanBegin}
 use Rattle.reading_machines.specs.Laws.{ReadsExactly}
 use Rattle.reading_machines.proofs.Runs.{run-append}
-use Rattle.positioned_trees.specs.declared.trees.Tree.{Tree}
 use Rattle.source_grammar.specs.Lexemes.{Place, Lexeme, close_round, underscore, id_token}
-use Rattle.source_grammar.specs.Patterns.{Pat, Pat1, SPat, ProperPat, pat_tokens, pat_tree, IsPattern}
+use Rattle.source_grammar.specs.Patterns.{Pat, Pat1, SPat, ProperPat, pat_tokens, pat_tree}
 use Rattle.source_grammar.specs.Types.{SimpleType}
 use Rattle.parse_parts.proofs.Derived as types
 use Rattle.parse_parts.proofs.Derived.{longer, is_some}
 use Rattle.parse_parts.proofs.Seen as types_seen
 use Rattle.parse_patterns.specs.Parting.{IsSomePattern}
 use Rattle.parse_patterns.proofs.Alive.{any_place, an_id, Completed, completed}
-use Rattle.parse_patterns.proofs.Along.{Leads, leads-none, leads-then, leads-one, leads-to, id-step, when-true, type-leads, earlier_of, after1, last_pat1, after, proper-last1, alternated-there, alternative-there, pat-along}
-use Rattle.parse_patterns.proofs.Derived.{Operation, Binder, Earlier, Spot, Begin, AtWild, AtPath, AtDot, AtEnded, Subject, Current, InType, InInfix, Frame, State, spat_of, simple_in, typed_at, infix_at, alternative_at, pat_read, may_stand, at, fresh, ended_at, closed_as, ended, shut, moved_in, step, whole_at, machine, tokens_in, earlier_tokens}
+use Rattle.parse_patterns.proofs.Along.{Leads, leads-none, leads-then, leads-one, id-step, when-true, type-leads, earlier_of, last_pat1, after, proper-last1, alternated-there, alternative-there, pat-along}
+use Rattle.parse_patterns.proofs.Derived.{Operation, Binder, Earlier, Spot, Begin, AtWild, AtPath, AtDot, AtEnded, Subject, Current, InType, InInfix, Frame, State, simple_in, typed_at, alternative_at, pat_read, may_stand, at, ended_at, closed_as, ended, moved_in, step, whole_at, machine, tokens_in, earlier_tokens}
 use Rattle.parse_patterns.proofs.Good.{Good, GoodCurrent, ready, proper-read, run-good, start-good}
-use Rattle.parse_patterns.proofs.Seen.{ClosesRound, seen}
+use Rattle.parse_patterns.proofs.Seen.{ClosesRound}
 use Rattle.parse_patterns.proofs.SimpleTypes.{goes, leaves}
 use Rattle.parse_patterns.proofs.Sound.{run-adds, read-tokens, alternative-tokens}
 
@@ -162,8 +161,11 @@ begins xs s r =
 
 pub reads-patterns : ReadsExactly IsSomePattern machine
 reads-patterns = record {
-  complete = λ xs is. (after [] [] is.is.derivation, pat-runs is.is.derivation is.is.proper xs is.is.tokens,
-      ap is_some (alternative-there (last_pat1 is.is.derivation) (proper-last1 is.is.derivation is.is.proper)));
+  complete = λ xs is. (
+    after [] [] is.is.derivation,
+    pat-runs is.is.derivation is.is.proper xs is.is.tokens,
+    ap is_some (alternative-there (last_pat1 is.is.derivation) (proper-last1 is.is.derivation is.is.proper)),
+  );
   sound = sound;
   alive = begins;
 }

@@ -1,24 +1,23 @@
 -- The derivations in a state keep what the grammar asks of them, so what was read of a whole state is a pattern.
-use Rattle.std.proofs.Common.{◌≡◌, Bool, true, false, ◌&&◌, if◌then◌else◌, List, [], ◌∷◌, ◌++◌, Option, Some, None, refl, ap, sym, ◌∙◌, append_assoc, append-nil, subst}
-use Rattle.std.specs.Prelude.{not}
+use Rattle.std.proofs.Common.{◌≡◌, Bool, true, false, if◌then◌else◌, List, [], ◌∷◌, ◌++◌, Option, Some, None, refl, ap, sym, ◌∙◌, append_assoc, append-nil, subst}
 use Rattle.reading_machines.specs.Machines.{run, onward}
 use Rattle.scan_tokens.specs.declared.tokens.Newline.{Newline}
 use Rattle.scan_tokens.specs.declared.tokens.Newline.TheVariants.{No, One, Blank}
-use Rattle.source_grammar.specs.Lexemes.{Place, Lexeme, open_round, close_round, underscore, colon, at_sign, Id, id_token, Step, QualId, qual_id_tokens, literal_place, literal_token, Number, number_token}
+use Rattle.source_grammar.specs.Lexemes.{Place, Lexeme, open_round, underscore, Id, id_token, Step, QualId, literal_token, Number, number_token}
 use Rattle.source_grammar.specs.Newlines.{IsJoined, is_near, newline_before}
-use Rattle.source_grammar.specs.Patterns.{Pat, Pat1, Pat3, SPat, PatList, LastAlternative, MoreAlternatives, TypedVar, TypedWild, BoundPat, InfixPat, LastOperand, MoreOperands, WildPat, VarPat, LiteralPat, MinusPat, PathPat, CallPatOfNone, CallPat, UnitPat, PatInParentheses, PairPat, TriplePat, LastPat, MorePats, pat_tokens, pat1_tokens, pat3_tokens, spat_tokens, is_var, is_var_path, is_bar, pat3_operators, ProperPat, ProperPat1, ProperPat3, ProperSPat, ProperPatList}
+use Rattle.source_grammar.specs.Patterns.{Pat, Pat1, Pat3, SPat, PatList, LastAlternative, MoreAlternatives, LastOperand, MoreOperands, WildPat, LiteralPat, LastPat, MorePats, pat_tokens, pat1_tokens, pat3_tokens, spat_tokens, is_var, is_var_path, is_bar, pat3_operators, ProperPat, ProperPat1, ProperPat3, ProperSPat, ProperPatList}
 use Rattle.source_grammar.specs.Precedence.{are_of_one_side}
 use Rattle.source_grammar.specs.Types.{SimpleType}
 use Rattle.parse_parts.proofs.Derived as types
 use Rattle.parse_parts.proofs.Derived.{longer}
 use Rattle.parse_patterns.specs.Steps.{is_no}
 use Rattle.parse_patterns.proofs.Along.{front-newline}
-use Rattle.parse_patterns.proofs.Begun.{Begins, Some_begins, some-append, some-behind, spat-begins, pat1-begins, bracket-begins, stands, stands-first, stands-front}
-use Rattle.parse_patterns.proofs.Derived.{Operation, Binder, Done, Earlier, Spot, Begin, AtWild, AtPath, AtDot, AtEnded, Subject, VarSubject, WildSubject, Current, InType, InInfix, Bracket, Call, Group, GroupOne, GroupTwo, Frame, State, settled, bound, typed, alternated, listed, named_pat, spat_of, simple_in, typed_at, infix_at, alternative_at, pat_read, may_stand, is_fresh, has_none, fits, when, at, fresh, framed, parted_in, parted, closed_as, closed, emptied_as, emptied_in, emptied, barred, ended_by, ended, operated, behind, named, is_minus_path, started, numbered, coloned, signed, frame_of, opened, shut, dotted, moved, moved_in, step_at, step, spot_tokens, operations_tokens, binder_tokens, subject_tokens, current_tokens, bracket_tokens}
+use Rattle.parse_patterns.proofs.Begun.{Begins, Some_begins, some-append, some-behind, spat-begins, pat1-begins, stands, stands-first, stands-front}
+use Rattle.parse_patterns.proofs.Derived.{Operation, Binder, Done, Earlier, Spot, Begin, AtWild, AtPath, AtDot, AtEnded, Subject, VarSubject, WildSubject, Current, InType, InInfix, Bracket, Call, Group, GroupOne, GroupTwo, Frame, State, settled, bound, typed, alternated, listed, named_pat, spat_of, simple_in, typed_at, infix_at, alternative_at, pat_read, may_stand, fits, when, at, fresh, framed, parted_in, closed_as, closed, emptied_as, emptied_in, barred, ended_by, ended, operated, behind, named, is_minus_path, started, numbered, coloned, signed, opened, shut, dotted, moved, moved_in, step_at, step, spot_tokens, operations_tokens, binder_tokens, subject_tokens, bracket_tokens}
 use Rattle.parse_patterns.proofs.Seen.{Seen, AnId, ANumber, ALiteral, AnUnderscore, AColon, AnAt, OpensRound, ClosesRound, AComma, ADot, Another, seen, literal_of, number-literal}
-use Rattle.parse_patterns.proofs.Sides.{operators_of, side-front, fits-side}
-use Rattle.parse_patterns.proofs.SimpleTypes.{simple_step, type_begun, can_be_simple, simple-can}
-use Rattle.parse_patterns.proofs.Sound.{bound-tokens, read-tokens, spat-tokens, minus-token, both}
+use Rattle.parse_patterns.proofs.Sides.{operators_of, fits-side}
+use Rattle.parse_patterns.proofs.SimpleTypes.{simple_step, can_be_simple, simple-can}
+use Rattle.parse_patterns.proofs.Sound.{bound-tokens, spat-tokens, minus-token, both}
 
 -- ---- what is kept
 
@@ -416,10 +415,13 @@ opened-good o b os Begin es fs g i = or-when _ _ (λ h. record {
   current = good-fresh [] no-earlier;
 })
 opened-good o b os (AtPath path) es fs g i = or-when _ _ (λ h. record {
-  frames = (record {
-    level = level-same es b os (id_token path.first) _ _ (record { rest = _; is = refl }) (record { rest = _; is = refl }) i.level;
-    bracket = (is-no o.before h, tt);
-  }, g);
+  frames = (
+    record {
+      level = level-same es b os (id_token path.first) _ _ (record { rest = _; is = refl }) (record { rest = _; is = refl }) i.level;
+      bracket = (is-no o.before h, tt);
+    },
+    g,
+  );
   current = good-fresh [] no-earlier;
 })
 opened-good o b os _ es fs g i = or-none

@@ -33,7 +33,7 @@ step_of s x = if admits s x then Some (advanced s x) else None
 stepping : (text : Bytes) (t : Token) (ts : List Token) (word : Bytes) (n : ℕ) (best : Option ℕ) (s : State) → word ≡ word_of t.kind (bytes_in text t.span)
     → onwards text (t ∷ ts) n best s
     ≡ (let now = noted ((reader).whole s) n best in
-        onward (step_of s (lexeme_with t word)) (record { state = s; reached = n; best = now }) (onwards text ts (n + 1) now))
+    onward (step_of s (lexeme_with t word)) (record { state = s; reached = n; best = now }) (onwards text ts (n + 1) now))
 unfolding lexeme_of
 stepping text t ts word n best s w =
     ap (λ b. onward (step_of s (lexeme_with t (word_of t.kind (bytes_in text t.span)))) (record { state = s; reached = n; best = noted b n best }) (onwards text ts (n + 1) (noted b n best))) (and-true ((reader).whole s))

@@ -1,17 +1,14 @@
 -- A step of the reader is a step of the machine, with its trees as far as these are kept.
-use Rattle.std.proofs.Common.{◌≡◌, ℕ, Bool, true, false, ◌&&◌, if◌then◌else◌, List, [], ◌∷◌, ◌++◌, map, Option, Some, None, option_map, codes, refl, ap, sym, ◌∙◌, append_assoc, append-nil, ◌⊎◌, inl, inr}
+use Rattle.std.proofs.Common.{◌≡◌, Bool, true, false, ◌&&◌, if◌then◌else◌, List, [], ◌∷◌, ◌++◌, map, Option, Some, None, option_map, codes, refl, ap, sym, ◌∙◌, append_assoc, append-nil, ◌⊎◌, inl, inr}
 use Rattle.std.specs.Prelude.{not, ◌||◌}
 use Rattle.pc_terms.specs.declared.tree_kinds.TreeKind.TheVariants as kind
 use Rattle.positioned_trees.specs.declared.trees.Tree.{Tree}
 use Rattle.scan_tokens.specs.declared.tokens.Newline.{Newline}
-use Rattle.source_grammar.specs.Lexemes.{Place, Lexeme, open_round, close_round, comma, minus, Id, Step, QualId, qual_id_tokens, Literal, literal_token, literal_text, literal_place, Number, number_token}
-use Rattle.source_grammar.specs.Newlines.{is_near}
-use Rattle.source_grammar.specs.Patterns.{Pat, Pat1, SPat, PatList, LastOperand, LiteralPat, MinusPat, CallPatOfNone, CallPat, UnitPat, PatInParentheses, PairPat, TriplePat, LastPat, MorePats, pat_tokens, pat_list_tokens, spat_tokens, is_bar, is_var_path, pat3_operators, pat_tree, spat_tree, pat_list_trees, call_pat, leaf_pat}
-use Rattle.source_grammar.specs.Precedence.{precedence, is_right, are_of_one_side}
-use Rattle.source_grammar.specs.Spans.{labelled, unlabelled, span_of, end_behind}
+use Rattle.source_grammar.specs.Lexemes.{Place, Lexeme, open_round, close_round, comma, Id, Step, QualId, qual_id_tokens, Literal, literal_token, literal_text, literal_place, Number}
+use Rattle.source_grammar.specs.Patterns.{Pat, Pat1, SPat, PatList, LastOperand, LiteralPat, MinusPat, CallPatOfNone, CallPat, UnitPat, PairPat, TriplePat, LastPat, MorePats, pat_tokens, pat_list_tokens, spat_tokens, is_bar, is_var_path, pat_tree, spat_tree, pat_list_trees, call_pat}
+use Rattle.source_grammar.specs.Spans.{unlabelled, span_of}
 use Rattle.source_grammar.specs.Types.{SimpleType, prefix_kids, last_id}
 use Rattle.parse_parts.specs.declared.built.Kids.{Kids}
-use Rattle.parse_parts.specs.declared.built.Tall.{Tall}
 use Rattle.parse_parts.specs.declared.states.Count.{Count}
 use Rattle.parse_parts.specs.declared.states.Count.TheVariants as count
 use Rattle.parse_parts.specs.declared.states.Path.{Path}
@@ -24,7 +21,7 @@ use Rattle.parse_parts.specs.Reading.{is_nil, begun as type_reader_begun}
 use Rattle.parse_parts.specs.Steps as type_spec
 use Rattle.parse_parts.proofs.Derived as types
 use Rattle.parse_parts.proofs.Derived.{is_some, longer}
-use Rattle.parse_parts.proofs.Kept.{kept, kept_all, joined-kept, alone-kept, node-kept, only-kept}
+use Rattle.parse_parts.proofs.Kept.{kept, kept_all, joined-kept, node-kept, only-kept}
 use Rattle.parse_parts.proofs.Moves as type_moves
 use Rattle.parse_parts.proofs.Seen as type_seen
 use Rattle.parse_parts.proofs.Shown as type_shown
@@ -40,7 +37,7 @@ use Rattle.parse_patterns.specs.declared.states.Spot.TheVariants as spot
 use Rattle.parse_patterns.specs.declared.states.State.{State}
 use Rattle.parse_patterns.specs.declared.symbols.Symbol.{Symbol}
 use Rattle.parse_patterns.specs.declared.symbols.Symbol.TheVariants as symbol
-use Rattle.parse_patterns.specs.Names.{id_of, lead_of}
+use Rattle.parse_patterns.specs.Names.{id_of}
 use Rattle.parse_patterns.specs.Reading.{stepped}
 use Rattle.parse_patterns.specs.Steps as spec
 use Rattle.parse_patterns.specs.Steps.{admits, advanced, is_no, type_symbol_of}
@@ -49,7 +46,7 @@ use Rattle.parse_patterns.proofs.Chains.{piece_of, operations_shown, fits-shown,
 use Rattle.parse_patterns.proofs.Derived as derived
 use Rattle.parse_patterns.proofs.Derived.{spat_of, simple_in, typed_at, infix_at, alternative_at, pat_read, listed, when, is_minus_path}
 use Rattle.parse_patterns.proofs.Joined.{pushed}
-use Rattle.parse_patterns.proofs.Seen.{Seen, AnId, ANumber, seen_as, number_as, literal_as, literal_of, number-literal, seen, shown_token, token-shown}
+use Rattle.parse_patterns.proofs.Seen.{seen_as, number_as, literal_as, literal_of, number-literal, seen, shown_token, token-shown}
 use Rattle.parse_patterns.proofs.Shown.{lead-var, lead-minus, lead_shown, spot_shown, name_of, binder_shown, subject_shown, piece1, earlier_shown, current_shown, bracket_shown, counted, count_shown, done_trees, bracket_trees, frame_shown, shown, OneSide, operand-shown, alternative-shown, pattern-shown}
 use Rattle.parse_patterns.proofs.SimpleTypes.{goes, leaves, is_alone, is_full, full_alone, is_empty, is_begin, simple_step, type_begun}
 

@@ -1,14 +1,14 @@
 -- What a token is to the grammar of patterns, with what the grammar keeps of it.
-use Rattle.std.proofs.Common.{◌≡◌, Bool, true, false, ◌||◌, if◌then◌else◌, List, codes, refl, ap, sym, ◌∙◌}
+use Rattle.std.proofs.Common.{◌≡◌, Bool, true, false, ◌||◌, if◌then◌else◌, codes, refl, ap, sym}
 use Rattle.std.specs.Str.{bytes_eq}
 use Rattle.std.proofs.lemmas.Slice.Eq.{bytes_eq-Decides}
 use Rattle.scan_tokens.specs.declared.tokens.TokenKind.{TokenKind}
 use Rattle.scan_tokens.specs.declared.tokens.TokenKind.TheVariants as kind
 use Rattle.scan_tokens.specs.Words.{Bytes}
-use Rattle.source_grammar.specs.Lexemes.{Place, Lexeme, token_at, word_at, open_round, close_round, comma, dot, underscore, colon, at_sign, bar, minus, Id, id_token, Literal, IntLiteral, LongLiteral, CharLiteral, StringLiteral, TrueLiteral, FalseLiteral, NullLiteral, literal_token, Number, number_token}
+use Rattle.source_grammar.specs.Lexemes.{Place, Lexeme, token_at, open_round, close_round, comma, dot, underscore, colon, at_sign, Id, id_token, Literal, IntLiteral, LongLiteral, CharLiteral, StringLiteral, TrueLiteral, FalseLiteral, NullLiteral, literal_token, Number, number_token}
 use Rattle.parse_patterns.specs.declared.symbols.Symbol.{Symbol}
 use Rattle.parse_patterns.specs.declared.symbols.Symbol.TheVariants as symbol
-use Rattle.parse_patterns.specs.Names.{is_quoted, id_of}
+use Rattle.parse_patterns.specs.Names.{id_of}
 use Rattle.parse_patterns.specs.Symbols.{symbol_of}
 
 pub data Seen : Type 0 where

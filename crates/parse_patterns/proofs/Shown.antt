@@ -1,24 +1,22 @@
 -- The reader's state is the machine's, with the trees of its derivations as far as these are kept.
-use Rattle.std.proofs.Common.{◌≡◌, ℕ, Bool, true, false, ◌&&◌, if◌then◌else◌, List, [], ◌∷◌, ◌++◌, map, Option, Some, None, codes, refl, ap, sym, ◌∙◌, append_assoc, append-nil}
+use Rattle.std.proofs.Common.{◌≡◌, ℕ, Bool, true, false, ◌&&◌, if◌then◌else◌, List, [], ◌∷◌, ◌++◌, map, Option, Some, None, codes, refl, ap, sym, ◌∙◌, append_assoc}
 use Rattle.std.specs.Prelude.{not}
 use Rattle.pc_terms.specs.declared.problems.Span.{Span}
 use Rattle.pc_terms.specs.declared.tree_kinds.TreeKind.TheVariants as kind
 use Rattle.positioned_trees.specs.declared.details.Name.{Name}
 use Rattle.positioned_trees.specs.declared.trees.Tree.{Tree}
-use Rattle.source_grammar.specs.Lexemes.{Place, Lexeme, open_round, close_round, underscore, colon, at_sign, bar, Id, id_token, Step, QualId, steps_tokens, qual_id_tokens}
-use Rattle.source_grammar.specs.Patterns.{Pat, Pat1, Pat3, SPat, PatList, LastAlternative, MoreAlternatives, TypedVar, TypedWild, BoundPat, InfixPat, LastOperand, MoreOperands, WildPat, VarPat, LiteralPat, MinusPat, PathPat, CallPatOfNone, CallPat, UnitPat, PatInParentheses, PairPat, TriplePat, LastPat, MorePats, pat_tokens, pat1_tokens, pat3_tokens, spat_tokens, pat_list_tokens, is_var, is_var_path, pat3_operators, join_patterns, joined_pattern, pat3_chain, pat_tree, alternative_trees, pat1_tree, spat_tree, pat_list_trees, call_pat}
+use Rattle.source_grammar.specs.Lexemes.{Place, Lexeme, underscore, colon, at_sign, bar, Id, id_token, Step, QualId}
+use Rattle.source_grammar.specs.Patterns.{Pat, Pat1, Pat3, SPat, LastAlternative, MoreAlternatives, TypedVar, TypedWild, BoundPat, LastOperand, WildPat, VarPat, PathPat, pat_tokens, pat1_tokens, pat3_tokens, is_var, is_var_path, pat3_operators, join_patterns, joined_pattern, pat3_chain, pat_tree, alternative_trees, pat1_tree, spat_tree}
 use Rattle.source_grammar.specs.Precedence.{are_of_one_side, joined}
-use Rattle.source_grammar.specs.Spans.{labelled, unlabelled, span_of, end_behind}
+use Rattle.source_grammar.specs.Spans.{labelled, unlabelled, span_of}
 use Rattle.source_grammar.specs.Types.{SimpleType, simple_tokens, simple_tree, prefix_kids, last_id, path_span}
-use Rattle.parse_parts.specs.declared.built.Kids.{Kids}
 use Rattle.parse_parts.specs.declared.built.Tall.{Tall}
 use Rattle.parse_parts.specs.declared.states.Count.{Count}
 use Rattle.parse_parts.specs.declared.states.Count.TheVariants as count
-use Rattle.parse_parts.specs.Built as built
-use Rattle.parse_parts.specs.Built.{alone, node, only}
+use Rattle.parse_parts.specs.Built.{alone, node}
 use Rattle.parse_parts.specs.Steps as type_spec
 use Rattle.parse_parts.proofs.Derived as types
-use Rattle.parse_parts.proofs.Kept.{kept, kept_all, joined-kept, alone-kept, node-kept, only-kept}
+use Rattle.parse_parts.proofs.Kept.{kept, kept_all, joined-kept, alone-kept, node-kept}
 use Rattle.parse_parts.proofs.Shown as type_shown
 use Rattle.parse_parts.proofs.Shown.{end_of, end-behind, steps-end, has_steps, path_shown}
 use Rattle.parse_parts.proofs.Sound as types_sound
@@ -37,8 +35,8 @@ use Rattle.parse_patterns.specs.declared.states.State.{State}
 use Rattle.parse_patterns.specs.Names.{is_minus, lead_of}
 use Rattle.parse_patterns.specs.Operators as operators
 use Rattle.parse_patterns.specs.Steps as spec
-use Rattle.parse_patterns.proofs.Begun.{Begins, Some_begins, some-append, some-behind, spat-begins, pat1-begins, pat3-begins}
-use Rattle.parse_patterns.proofs.Chains.{kept_piece, piece_of, operations_shown, settled-shown, settled-span, first-start, start-append, end-append, span-end, span-is}
+use Rattle.parse_patterns.proofs.Begun.{Some_begins, some-append, some-behind, pat1-begins, pat3-begins}
+use Rattle.parse_patterns.proofs.Chains.{kept_piece, piece_of, operations_shown, settled-shown, settled-span, start-append, end-append, span-end, span-is}
 use Rattle.parse_patterns.proofs.Derived as derived
 use Rattle.parse_patterns.proofs.Derived.{settled, bound, typed, alternated, listed, named_pat, spat_of, simple_in, typed_at, infix_at, alternative_at, pat_read, has_none, is_minus_path, operations_tokens, earlier_tokens}
 use Rattle.parse_patterns.proofs.Joined.{put}
@@ -155,7 +153,7 @@ path-piece : (path : QualId) (v : Bool) → is_var_path path.first path.steps �
 path-piece path true e = go path.steps e where
   go : (steps : List Step) → is_var_path path.first steps ≡ true
       → (let p : QualId = record { first = path.first; steps = steps } in
-        record { tall = type_spec.path_node kind.Bind (path_shown p); span = record { start = path.first.place.span.start; end = (last_id p).place.span.end } })
+      record { tall = type_spec.path_node kind.Bind (path_shown p); span = record { start = path.first.place.span.start; end = (last_id p).place.span.end } })
       ≡ piece_of (VarPat path.first)
   go [] f = ap (λ t. record { tall = t; span = path.first.place.span }) (node-kept kind.Bind path.first.name path.first.place.span path.first.place.span [])
   go (s ∷ steps) f = cc

@@ -1,5 +1,5 @@
 -- The types that stand in patterns are Simples: the reader of types goes on in them where a Simple can still come of it.
-use Rattle.std.proofs.Common.{◌≡◌, Bool, true, false, ◌&&◌, List, [], ◌∷◌, ◌++◌, Option, Some, None, refl, ap, sym, ◌∙◌, append-nil, subst}
+use Rattle.std.proofs.Common.{◌≡◌, Bool, true, false, ◌&&◌, List, [], ◌∷◌, Option, Some, None, refl, ap, sym, ◌∙◌, append-nil}
 use Rattle.std.specs.Prelude.{not}
 use Rattle.reading_machines.specs.Machines.{run, onward}
 use Rattle.source_grammar.specs.Lexemes.{Place, Lexeme, Arrow, Id}
@@ -7,7 +7,7 @@ use Rattle.source_grammar.specs.Types.{WrittenType, SimpleType, Simple, TypeList
 use Rattle.parse_parts.proofs.Seen.{Seen, AnId, OpensRound, ClosesRound, OpensSquare, ClosesSquare, AComma, ADot, AnArrow, ATypeWord, Another, seen}
 use Rattle.parse_parts.proofs.Derived as derived
 use Rattle.parse_parts.proofs.Derived.{Head, Spot, Begin, AtPath, AtDot, AtNamed, AtNone, AtTypes, Bracket, Round, Square, Done, Frame, State, simple_of, head_of, in_round, listed, is_some, settled, moved, step}
-use Rattle.parse_parts.proofs.Along.{at, Leads, simple-along, simple_spot, simple-there}
+use Rattle.parse_parts.proofs.Along.{at, simple-along, simple_spot, simple-there}
 
 abbrev pub is_empty : {A : Type 0} → List A → Bool
 is_empty [] = true

@@ -1,12 +1,12 @@
 -- A pattern has no more trees than tokens, so the numbers of its trees fit.
-use Rattle.std.proofs.Common.{◌≡◌, ℕ, zero, suc, ◌+◌, ◌≤◌, Bool, true, false, if◌then◌else◌, List, [], ◌∷◌, ◌++◌, length, ap, sym, ◌∙◌, refl, arith, length-append}
+use Rattle.std.proofs.Common.{◌≡◌, ℕ, zero, suc, ◌+◌, ◌≤◌, Bool, true, false, if◌then◌else◌, List, [], ◌∷◌, ◌++◌, length, ◌∙◌, refl, arith, length-append}
 use Rattle.std.specs.Prelude.{not, ◌==◌}
 use Rattle.positioned_trees.specs.declared.trees.Tree.{Tree}
-use Rattle.source_grammar.specs.Lexemes.{QualId, steps_tokens, qual_id_tokens, open_round, close_round, comma, bar, id_token}
+use Rattle.source_grammar.specs.Lexemes.{QualId, qual_id_tokens, open_round, close_round, comma, bar, id_token}
 use Rattle.source_grammar.specs.Patterns.{Pat, Pat1, Pat3, SPat, PatList, LastAlternative, MoreAlternatives, TypedVar, TypedWild, BoundPat, InfixPat, LastOperand, MoreOperands, WildPat, VarPat, LiteralPat, MinusPat, PathPat, CallPatOfNone, CallPat, UnitPat, PatInParentheses, PairPat, TriplePat, LastPat, MorePats, pat_tokens, pat1_tokens, pat3_tokens, spat_tokens, pat_list_tokens, join_patterns, joined_pattern, pat3_chain, pat_tree, alternative_trees, pat1_tree, spat_tree, pat_list_trees}
 use Rattle.source_grammar.specs.Precedence.{Operand, Operation, Chain, precedence, is_right, after_left, joined_right, joined_at, joined_from, joined}
 use Rattle.source_grammar.specs.Lexemes.{Id}
-use Rattle.source_grammar.specs.Types.{simple_tree, simple_tokens, prefix_kids, ident_tree}
+use Rattle.source_grammar.specs.Types.{simple_tree, prefix_kids, ident_tree}
 use Rattle.parse_parts.proofs.Sizes.{size, sizes, sizes-cons, size-labelled, before-size, ident-size, simple-size}
 
 sizes-append : (xs ys : List Tree) → sizes (xs ++ ys) ≡ sizes xs + sizes ys

@@ -7,17 +7,16 @@ use Rattle.reading_machines.specs.Machines.{run, onward}
 use Rattle.scan_tokens.specs.declared.tokens.Newline.{Newline}
 use Rattle.scan_tokens.specs.declared.tokens.TokenKind.TheVariants as kind
 use Rattle.scan_tokens.specs.Words.{Bytes}
-use Rattle.source_grammar.specs.Lexemes.{Place, Lexeme, token_at, open_round, close_round, comma, dot, underscore, colon, at_sign, bar, minus, Id, id_token, Step, QualId, steps_tokens, qual_id_tokens, Literal, literal_token, literal_place, Number, number_token}
-use Rattle.source_grammar.specs.Patterns.{Pat, Pat1, Pat3, SPat, PatList, LastAlternative, MoreAlternatives, TypedVar, TypedWild, BoundPat, InfixPat, LastOperand, MoreOperands, WildPat, VarPat, LiteralPat, MinusPat, PathPat, CallPatOfNone, CallPat, UnitPat, PatInParentheses, PairPat, TriplePat, LastPat, MorePats, pat_tokens, pat1_tokens, pat3_tokens, spat_tokens, pat_list_tokens, is_var, is_var_path, is_bar}
+use Rattle.source_grammar.specs.Lexemes.{Place, Lexeme, token_at, open_round, close_round, comma, dot, underscore, colon, at_sign, bar, minus, Id, id_token, Step, QualId, steps_tokens, qual_id_tokens, literal_token, Number, number_token}
+use Rattle.source_grammar.specs.Patterns.{Pat, Pat1, Pat3, SPat, PatList, LastAlternative, MoreAlternatives, LastOperand, MoreOperands, WildPat, CallPatOfNone, UnitPat, LastPat, MorePats, pat_tokens, pat1_tokens, pat3_tokens, spat_tokens, pat_list_tokens, is_var_path, is_bar}
 use Rattle.source_grammar.specs.Types.{SimpleType, simple_tokens}
 use Rattle.parse_parts.proofs.Derived as types
 use Rattle.parse_parts.proofs.Derived.{longer}
 use Rattle.parse_parts.proofs.Sound as types_sound
 use Rattle.parse_parts.proofs.Sound.{tokens_in as type_tokens_in}
-use Rattle.parse_patterns.specs.Names.{is_minus}
 use Rattle.parse_patterns.specs.Steps.{is_no}
-use Rattle.parse_patterns.proofs.Derived.{Operation, Binder, Done, Earlier, Spot, Begin, AtWild, AtPath, AtDot, AtEnded, Subject, VarSubject, WildSubject, Current, InType, InInfix, Bracket, Call, Group, GroupOne, GroupTwo, Frame, State, settled, bound, typed, alternated, listed, named_pat, spat_of, simple_in, typed_at, infix_at, alternative_at, pat_read, may_stand, is_fresh, has_none, fits, when, at, fresh, framed, parted_in, parted, closed_as, closed, emptied_as, emptied_in, emptied, barred, ended_by, ended, operated, behind, named, is_minus_path, started, numbered, coloned, signed, frame_of, opened, shut, dotted, moved, moved_in, step_at, step, spot_tokens, operations_tokens, binder_tokens, subject_tokens, current_tokens, earlier_tokens, done_tokens, bracket_tokens, frame_tokens, frames_tokens, tokens_in}
-use Rattle.parse_patterns.proofs.Seen.{Seen, AnId, ANumber, ALiteral, AnUnderscore, AColon, AnAt, OpensRound, ClosesRound, AComma, ADot, Another, seen, shown_token, token-shown, literal_of, number-literal}
+use Rattle.parse_patterns.proofs.Derived.{Operation, Binder, Done, Earlier, Spot, Begin, AtWild, AtPath, AtDot, AtEnded, Subject, VarSubject, WildSubject, Current, InType, InInfix, Bracket, Call, Group, GroupOne, GroupTwo, Frame, State, settled, bound, typed, alternated, listed, named_pat, spat_of, simple_in, typed_at, infix_at, alternative_at, pat_read, is_fresh, has_none, when, at, framed, parted_in, parted, closed_as, closed, emptied_as, emptied_in, emptied, barred, ended_by, ended, operated, behind, named, is_minus_path, started, numbered, coloned, signed, opened, shut, dotted, moved, moved_in, step_at, step, spot_tokens, operations_tokens, binder_tokens, subject_tokens, current_tokens, earlier_tokens, done_tokens, bracket_tokens, frames_tokens, tokens_in}
+use Rattle.parse_patterns.proofs.Seen.{Seen, AnId, ANumber, ALiteral, AnUnderscore, AColon, AnAt, OpensRound, ClosesRound, AComma, ADot, Another, seen, shown_token, token-shown, number-literal}
 use Rattle.parse_patterns.proofs.SimpleTypes.{simple_step, simple-step-is}
 
 -- ---- the tokens of derivations
@@ -108,7 +107,6 @@ pub both : (x y : Bool) → (x && y) ≡ true → (x ≡ true) × (y ≡ true)
 both true true e = (refl, refl)
 both true false e = cc
 both false y e = cc
-
 
 -- the spot alone has one token more
 at-spot : (fs : List Frame) (es : List Earlier) (b : Option Binder) (os : List Operation) (old new : List Lexeme) (x : Lexeme) → new ≡ old ++ x ∷ []

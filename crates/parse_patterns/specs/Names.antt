@@ -1,5 +1,5 @@
 -- What the name of a token is in a pattern: a variable, the minus of a number, or an operator.
-use Rattle.std.specs.Prelude.{ℕ, Bool, true, false, not, ◌&&◌, if◌then◌else◌, codes}
+use Rattle.std.specs.Prelude.{Bool, true, false, not, ◌&&◌, if◌then◌else◌, codes}
 use Rattle.std.specs.Str.{bytes_eq}
 use Rattle.scan_tokens.specs.declared.tokens.Token.{Token}
 use Rattle.scan_tokens.specs.declared.tokens.TokenKind.{TokenKind}

@@ -1,6 +1,5 @@
 -- Operands and operators as they come: an operator waits for what stands behind it, and those that bind closer than the next one go first.
 use Rattle.std.specs.Prelude.{ℕ, Bool, true, false, not, ◌&&◌, ◌||◌, ◌==◌, nat_lt, if◌then◌else◌, List, [], ◌∷◌}
-use Rattle.pc_terms.specs.declared.problems.Span.{Span}
 use Rattle.pc_terms.specs.declared.tree_kinds.TreeKind.TheVariants as kind
 use Rattle.positioned_trees.specs.declared.details.Name.{Name}
 use Rattle.parse_parts.specs.Built.{joined, alone, node}

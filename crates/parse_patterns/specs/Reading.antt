@@ -1,5 +1,5 @@
 -- The reader of patterns as a machine on lexemes.
-use Rattle.std.specs.Prelude.{Bool, ◌&&◌, if◌then◌else◌, List, [], Option, Some, None}
+use Rattle.std.specs.Prelude.{Bool, ◌&&◌, if◌then◌else◌, [], Option, Some, None}
 use Rattle.reading_machines.specs.Machines.{Machine}
 use Rattle.source_grammar.specs.Lexemes.{Lexeme}
 use Rattle.parse_parts.specs.Reading.{is_nil}

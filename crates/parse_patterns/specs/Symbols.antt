@@ -1,5 +1,5 @@
 -- What the tokens are to the grammar of patterns.
-use Rattle.std.specs.Prelude.{Bool, true, false, ◌||◌, if◌then◌else◌, codes}
+use Rattle.std.specs.Prelude.{◌||◌, if◌then◌else◌, codes}
 use Rattle.std.specs.Str.{bytes_eq}
 use Rattle.scan_tokens.specs.declared.tokens.TokenKind.{TokenKind}
 use Rattle.scan_tokens.specs.declared.tokens.TokenKind.TheVariants as kind

@@ -170,8 +170,8 @@ fn admits_infix(
     match read_symbol(token.kind, word.as_bytes()) {
         Symbol::Id => may_name(chain, earlier, token, word),
         Symbol::Number => may_number(chain, earlier, token, word),
-        Symbol::Literal | Symbol::Underscore =>
-            is_begin(&chain.spot) && may_begin(chain, earlier, token.before),
+        Symbol::Literal | Symbol::Underscore => is_begin(&chain.spot)
+            && may_begin(chain, earlier, token.before),
         Symbol::Colon => is_named(&chain.spot) && is_fresh(chain),
         Symbol::At => is_var_spot(&chain.spot) && is_fresh(chain) && is_no(token.before),
         Symbol::OpenRound => may_open(chain, earlier, token, word),
@@ -229,7 +229,12 @@ fn admits_typed(frames: &Stack<Frame>, ty: &TypeState, token: Token, word: &str)
 {
     type_goes_on(ty, read_type_symbol(token.kind, word.as_bytes()))
         || (is_simple(ty)
-            && may_end(read_symbol(token.kind, word.as_bytes()), frames, token, word))
+            && may_end(
+                read_symbol(token.kind, word.as_bytes()),
+                frames,
+                token,
+                word,
+            ))
 }
 
 /// Whether a token can stand next.
@@ -239,7 +244,6 @@ pub fn admits(state: &State, token: Token, word: &str) -> bool
 {
     match &state.current {
         Current::InType(_, ty) => admits_typed(&state.frames, ty, token, word),
-        Current::InInfix(chain) =>
-            admits_infix(&state.frames, &state.earlier, chain, token, word),
+        Current::InInfix(chain) => admits_infix(&state.frames, &state.earlier, chain, token, word),
     }
 }

@@ -98,7 +98,11 @@ fn is_variable(token: Token, word: &str) -> bool
 {
     let c = first_character(word);
     !is_quoted(token)
-        && (c == '_' || matches!(GeneralCategory::for_char(c), GeneralCategory::LowercaseLetter))
+        && (c == '_'
+            || matches!(
+                GeneralCategory::for_char(c),
+                GeneralCategory::LowercaseLetter
+            ))
 }
 
 fn is_minus(token: Token, word: &str) -> bool

@@ -16,10 +16,10 @@ use crate::patterns::{infix_at, leaf, operand_at, then_later, typed, with_earlie
 use crate::states::{Bracket, Current, Earlier, Frame, Infix, Lead, Operand, Spot, State};
 use crate::symbols::{Symbol, read_symbol};
 use parse_parts::built::{Kids, Tall, joined, no_kids, node, only};
+use parse_parts::read_symbol as read_type_symbol;
 use parse_parts::stack::Stack;
 use parse_parts::states::{Count, Path, Spot as TypeSpot, State as TypeState};
 use parse_parts::steps::{advance as advance_type, alone, counted, no_label, path_term};
-use parse_parts::read_symbol as read_type_symbol;
 use pc_terms::{NoMemory, Span, Text, TreeKind};
 use positioned_trees::Name;
 use scan_tokens::Token;
@@ -35,12 +35,7 @@ pub fn nothing_yet(alloc: Global) -> Current
     })
 }
 
-fn at_spot(
-    frames: Stack<Frame>,
-    earlier: Option<Earlier>,
-    chain: Infix,
-    spot: Spot,
-) -> State
+fn at_spot(frames: Stack<Frame>, earlier: Option<Earlier>, chain: Infix, spot: Spot) -> State
     ensures { result ≡ spec.at_spot frames earlier chain spot }
 {
     State {
@@ -102,7 +97,14 @@ fn operated(
         span: token.span,
     };
     let last = operand_at(alloc, spot);
-    let operations = pushed(alloc, operations, last, name, precedence(word), is_right(word))?;
+    let operations = pushed(
+        alloc,
+        operations,
+        last,
+        name,
+        precedence(word),
+        is_right(word),
+    )?;
     Ok(State {
         frames,
         earlier,
@@ -160,13 +162,7 @@ fn group_tall(alloc: Global, count: Count, kids: Option<Kids>, span: Span) -> Op
     }
 }
 
-fn closed_as(
-    alloc: Global,
-    bracket: Bracket,
-    count: Count,
-    kids: Option<Kids>,
-    end: u32,
-) -> Operand
+fn closed_as(alloc: Global, bracket: Bracket, count: Count, kids: Option<Kids>, end: u32) -> Operand
     ensures { result ≡ spec.closed_as bracket count kids end }
 {
     match bracket {
@@ -384,12 +380,7 @@ fn type_from(
     })
 }
 
-fn binder_from(
-    alloc: Global,
-    frames: Stack<Frame>,
-    earlier: Option<Earlier>,
-    chain: Infix,
-) -> State
+fn binder_from(alloc: Global, frames: Stack<Frame>, earlier: Option<Earlier>, chain: Infix) -> State
     ensures { result ≡ spec.binder_from chain.spot frames earlier chain }
 {
     let Infix {

@@ -1,4 +1,4 @@
-use Rattle.std.proofs.Common.{◌≡◌, ℕ, length, drop}
+use Rattle.std.proofs.Common.{◌≡◌, drop}
 use Rattle.parse_patterns.specs.Operators as spec
 use Rattle.parse_patterns.proofs.operators.fits.Given as goal
 

@@ -1,4 +1,4 @@
-use Rattle.std.proofs.Common.{◌≡◌, ℕ, length}
+use Rattle.std.proofs.Common.{◌≡◌, length}
 use Rattle.parse_patterns.specs.Operators as spec
 use Rattle.parse_patterns.proofs.operators.settled.Given as goal
 
