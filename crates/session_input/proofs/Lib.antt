@@ -1,0 +1,5 @@
+pub mod CountLemmas
+pub mod PairLemmas
+pub mod ReadLemmas
+pub mod SourceLemmas
+pub mod TextLemmas

@@ -1,0 +1,121 @@
+-- Sources that are read one after another.
+use Rattle.std.proofs.Common.{◌≡◌, ◌⊎◌, inl, inr, ℕ, zero, suc, ◌+◌, ◌<◌, ◌≤◌, Bool, true, false, cond, ◌||◌, ◌==◌, nat_lt, List, [], ◌∷◌, ◌++◌, length, map, take, drop, get_or, drop-cons, add-one, append_assoc, append-nil, All, Option, Some, None, is_some, Result, Ok, Err, MatchResult, refl, sym, ap, ◌∙◌, subst, arith}
+use Rattle.std.specs.List.{list_any, flat_map}
+use Rattle.std.specs.Str.{bytes_eq}
+use Rattle.std.proofs.lemmas.List.{take-append-drop}
+use Rattle.std.proofs.lemmas.List.Concat.{flat_map-append}
+use Rattle.script_text.proofs.TextLemmas.{take_one_more}
+use Rattle.ask_history.specs.declared.script.Line.{Line}
+use Rattle.std.proofs.lemmas.Bool.{false≢true}
+use Rattle.std.proofs.lemmas.Bool.Decides.{nat_tests}
+use Rattle.std.specs.Str.Lossy.{utf8_valid_len}
+use Rattle.pc_terms.specs.Bytes.{Bytes, max_source_bytes}
+use Rattle.ask_history.specs.Sources.{Sources, is_loaded}
+use Rattle.session_input.specs.Limits.{most_of}
+use Rattle.session_input.specs.Reads.{Reading, Gives, Refuses, Reads, then_reads, ComesTo}
+use Rattle.session_input.specs.Sources.{accepted, text_reading, pairs_of, pairs_in, sources_reading}
+use Rattle.session_input.specs.Leads.{LeadsOn, EndsAt}
+use Rattle.session_input.specs.declared.limits.Limit.TheVariants.{FileBytes}
+use Rattle.session_input.specs.declared.refusal.NoInput.{NoInput}
+use Rattle.session_input.specs.declared.refusal.NoInput.TheVariants.{NoMemory}
+use Rattle.indexmap.specs.IndexMap.{IndexMap, get, insert_entry}
+use Rattle.indexmap.proofs.CallerLemmas.{insert_entry-new}
+use Rattle.std.specs.Map.{lookup}
+use Rattle.session_input.proofs.ReadLemmas.{comes_to-then_ok, comes_to-then_err, comes_to-no_memory}
+
+-- ---- parts of a reading, one after another
+
+pub leads-none : (content : Bytes → Option Bytes) (sources : Sources) → LeadsOn content sources sources []
+leads-none content sources = record { leads = λ rest result comes. comes }
+
+pub leads-more : {content : Bytes → Option Bytes} {old mid new : Sources} {xs ys : List (Bytes × Bytes)}
+    → LeadsOn content old mid xs → LeadsOn content mid new ys → LeadsOn content old new (xs ++ ys)
+leads-more {ys = ys} first second = record { leads = λ rest result comes. rw append_assoc (first.leads (ys ++ rest) result (second.leads rest result comes)) }
+
+pub ends-more : {content : Bytes → Option Bytes} {old mid : Sources} {xs ys : List (Bytes × Bytes)} {none : NoInput}
+    → LeadsOn content old mid xs → EndsAt content mid ys none → EndsAt content old (xs ++ ys) none
+ends-more {ys = ys} {none = none} first second = record { ends = λ rest. rw append_assoc (first.leads (ys ++ rest) (Err none) (second.ends rest)) }
+
+pub ends-before : {content : Bytes → Option Bytes} {old : Sources} {xs : List (Bytes × Bytes)} (ys : List (Bytes × Bytes)) {none : NoInput}
+    → EndsAt content old xs none → EndsAt content old (xs ++ ys) none
+ends-before ys ends = record { ends = λ rest. rw append_assoc (ends.ends (ys ++ rest)) }
+
+-- the whole of a reading that was gone through part by part
+pub led : {content : Bytes → Option Bytes} {new : Sources} {pairs all : List (Bytes × Bytes)} → pairs ≡ all
+    → LeadsOn content [] new pairs → ComesTo content (sources_reading [] all) (Ok new)
+led {content = content} {new = new} {pairs = pairs} same leads =
+    subst (λ (ps : List (Bytes × Bytes)). ComesTo content (sources_reading [] ps) (Ok new)) (append-nil pairs ∙ same) (leads.leads [] (Ok new) (inl refl))
+
+pub ended : {content : Bytes → Option Bytes} {pairs all : List (Bytes × Bytes)} {none : NoInput} → pairs ≡ all
+    → EndsAt content [] pairs none → ComesTo {A = Sources} content (sources_reading [] all) (Err none)
+ended {content = content} {pairs = pairs} {none = none} same ends =
+    subst (λ (ps : List (Bytes × Bytes)). ComesTo {A = Sources} content (sources_reading [] ps) (Err none)) (append-nil pairs ∙ same) (ends.ends [])
+
+-- ---- one source
+
+pub leads-known : (content : Bytes → Option Bytes) (sources : Sources) (pair : Bytes × Bytes) → is_loaded sources pair.1 ≡ true → LeadsOn content sources sources (pair ∷ [])
+leads-known content sources pair known = record { leads = λ rest result comes. rw known comes }
+
+pub leads-read : (content : Bytes → Option Bytes) (sources : Sources) (pair : Bytes × Bytes) (text : Bytes) → is_loaded sources pair.1 ≡ false
+    → ComesTo content (text_reading FileBytes pair.1) (Ok text) → LeadsOn content sources (sources ++ (pair.1, text) ∷ []) (pair ∷ [])
+leads-read content sources pair text new own = record {
+  leads = λ rest result comes. rw new (comes_to-then_ok content (λ t. sources_reading (sources ++ (pair.1, t) ∷ []) rest) (text_reading FileBytes pair.1) text result own comes);
+}
+
+pub ends-read : (content : Bytes → Option Bytes) (sources : Sources) (pair : Bytes × Bytes) (none : NoInput) → is_loaded sources pair.1 ≡ false
+    → ComesTo {A = Bytes} content (text_reading FileBytes pair.1) (Err none) → EndsAt content sources (pair ∷ []) none
+ends-read content sources pair none new own = record {
+  ends = λ rest. rw new (comes_to-then_err content (λ t. sources_reading (sources ++ (pair.1, t) ∷ []) rest) (text_reading FileBytes pair.1) none own);
+}
+
+pub ends-no_memory : (content : Bytes → Option Bytes) (sources : Sources) (pairs : List (Bytes × Bytes)) → EndsAt content sources pairs NoMemory
+ends-no_memory content sources pairs = record { ends = λ rest. comes_to-no_memory content (sources_reading sources (pairs ++ rest)) }
+
+-- ---- the map of sources
+
+-- whether a path was read is whether the map has it
+pub loaded-lookup : {S : Type 0} (sources : IndexMap Bytes Bytes S) (path : Bytes) → is_loaded sources.entries path ≡ is_some (get bytes_eq sources path)
+loaded-lookup sources path = by sources.entries where
+  by : (entries : Sources) → is_loaded entries path ≡ is_some (lookup (bytes_eq path) entries)
+  by [] = refl
+  by (entry ∷ entries) = here (bytes_eq path entry.0) (by entries) where
+    here : (b : Bool) → is_loaded entries path ≡ is_some (lookup (bytes_eq path) entries) → (b || is_loaded entries path) ≡ is_some (cond b (Some entry.1) (lookup (bytes_eq path) entries))
+    here true rest = refl
+    here false rest = rest
+
+none_of : {A : Type 0} (found : Option A) → is_some found ≡ false → found ≡ None
+none_of None h = refl
+none_of (Some a) h = cc
+
+-- a new path goes last
+pub entries-new : {S : Type 0} (sources : IndexMap Bytes Bytes S) (path text : Bytes) → is_loaded sources.entries path ≡ false
+    → insert_entry bytes_eq sources.entries path text ≡ sources.entries ++ (path, text) ∷ []
+entries-new sources path text new = insert_entry-new bytes_eq sources path text (none_of (get bytes_eq sources path) (sym (loaded-lookup sources path) ∙ new))
+
+-- ---- the pairs of lines
+
+-- all elements: those before one, that one, and those after it
+pub split_at_item : {A : Type 0} (xs : List A) (i : ℕ) (x : A) → i < length xs → x ≡ get_or xs i x → (take i xs ++ x ∷ []) ++ drop (i + 1) xs ≡ xs
+split_at_item xs i x within here = append_assoc (take i xs) (x ∷ []) (drop (i + 1) xs) ∙ rw (add-one, ← (drop_item xs i x within here)) (take-append-drop i xs) where
+  drop_item : {A : Type 0} (xs : List A) (i : ℕ) (x : A) → i < length xs → x ≡ get_or xs i x → drop i xs ≡ x ∷ drop (suc i) xs
+  drop_item xs i x within here = rw (drop-cons xs i x within, ← here) refl
+
+pub pairs_in-more : (lines : List Line) (i : ℕ) (line : Line) → i < length lines → line ≡ get_or lines i line
+    → pairs_in (take (i + 1) lines) ≡ pairs_in (take i lines) ++ pairs_of line.order
+pairs_in-more lines i line within here =
+    ap pairs_in (take_one_more lines i line within here) ∙ flat_map-append (λ l. pairs_of l.order) (take i lines) (line ∷ [])
+    ∙ ap (λ ps. pairs_in (take i lines) ++ ps) (append-nil (pairs_of line.order))
+
+pub pairs_in-split : (lines : List Line) (i : ℕ) (line : Line) → i < length lines → line ≡ get_or lines i line
+    → (pairs_in (take i lines) ++ pairs_of line.order) ++ pairs_in (drop (i + 1) lines) ≡ pairs_in lines
+pairs_in-split lines i line within here =
+    ap (λ ps. ps ++ pairs_in (drop (i + 1) lines)) (sym (pairs_in-more lines i line within here))
+    ∙ sym (flat_map-append (λ l. pairs_of l.order) (take (i + 1) lines) (drop (i + 1) lines)) ∙ ap pairs_in (take-append-drop (i + 1) lines)
+
+-- ---- what was read
+
+abbrev pub AreSmall : Sources → Type 0
+AreSmall sources = All (λ source. length source.1 ≤ max_source_bytes) sources
+
+abbrev pub AreLoaded : Sources → List (Bytes × Bytes) → Type 0
+AreLoaded sources pairs = All (λ pair. is_loaded sources pair.1 ≡ true) pairs
