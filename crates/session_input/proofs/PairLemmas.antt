@@ -1,6 +1,6 @@
 -- A script names no more pairs than it has bytes.
 use Rattle.std.proofs.Common.{◌≡◌, ◌⊎◌, inl, inr, ℕ, ◌+◌, ◌*◌, ◌<◌, ◌≤◌, Bool, true, false, cond, ◌==◌, List, [], ◌∷◌, ◌++◌, length, codes, replicate, append-nil, Option, Some, None, Result, Ok, Err, refl, sym, ap, ◌∙◌, subst, length-append, arith}
-use Rattle.std.specs.List.{flat_map, sum_by, join_with_byte}
+use Rattle.std.specs.List.{flat_map, join_with_byte}
 use Rattle.std.proofs.lemmas.List.Concat.{flat_map-append}
 use Rattle.pc_terms.specs.Bytes.{Bytes, space, line_feed}
 use Rattle.ask_history.specs.declared.calls.Call.{Call}
@@ -53,5 +53,33 @@ pairs_line above line = omega (
 
 -- ---- the lines of a text
 
-bytes_in : List Bytes → ℕ
-bytes_in pieces = sum_by length pieces
+abbrev bytes_in : List Bytes → ℕ
+bytes_in [] = 0
+bytes_in (piece ∷ pieces) = length piece + bytes_in pieces
+
+split-bytes : (separator : ℕ) (bs : Bytes) → bytes_in (split separator bs) ≤ length bs
+split-bytes separator [] = omega arith
+split-bytes separator (b ∷ bs) = by (b == separator) (split separator bs) (split-bytes separator bs) where
+  by : (same : Bool) (pieces : List Bytes) → bytes_in pieces ≤ length bs → bytes_in (cond same ([] ∷ pieces) (onto_first b pieces)) ≤ length (b ∷ bs)
+  by true pieces within = omega arith
+  by false [] within = omega arith
+  by false (piece ∷ pieces) within = omega arith
+
+pairs_in-push : (above : List Line) (line : Line) → length (pairs_in (above ++ line ∷ [])) ≡ length (pairs_in above) + length (pairs_of line.order)
+pairs_in-push above line =
+    ap length (flat_map-append (λ l. pairs_of l.order) above (line ∷ [])) ∙ length-append (pairs_in above) (pairs_of line.order ++ [])
+    ∙ ap (λ ps. length (pairs_in above) + length ps) (append-nil (pairs_of line.order))
+
+pairs_lines : (kind : ScriptKind) (pieces : List Bytes) (above all : List Line) → AreLines kind above pieces all → length (pairs_in all) ≤ length (pairs_in above) + bytes_in pieces
+pairs_lines kind [] above all same = let e = ap (λ lines. length (pairs_in lines)) same in omega arith
+pairs_lines kind (bytes ∷ pieces) above all (inl (passed, rest)) = omega (arith, pairs_lines kind pieces above all rest)
+pairs_lines kind (bytes ∷ pieces) above all (inr (line, here, rest)) = omega (
+  arith,
+  pairs_lines kind pieces (above ++ line ∷ []) all rest,
+  pairs_in-push above line,
+  pairs_line (holder_at above line.level) line,
+  ap length here.text,
+)
+
+pub pairs_in_script : (kind : ScriptKind) (text : Bytes) (lines : List Line) → IsScript kind text lines → length (pairs_in lines) ≤ length text
+pairs_in_script kind text lines is = omega (arith, pairs_lines kind (lines_of text) [] lines is, split-bytes line_feed text)

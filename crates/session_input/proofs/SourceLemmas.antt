@@ -119,3 +119,9 @@ AreSmall sources = All (λ source. length source.1 ≤ max_source_bytes) sources
 
 abbrev pub AreLoaded : Sources → List (Bytes × Bytes) → Type 0
 AreLoaded sources pairs = All (λ pair. is_loaded sources pair.1 ≡ true) pairs
+
+-- what stands after sources were read
+pub record WereRead (before after : Sources) (pairs : List (Bytes × Bytes)) : Type 0 where
+  pub kept : (path : Bytes) → is_loaded before path ≡ true → is_loaded after path ≡ true
+  pub loaded : AreLoaded after pairs
+  pub small : AreSmall after

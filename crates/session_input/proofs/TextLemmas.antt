@@ -9,7 +9,8 @@ use Rattle.pc_terms.specs.Bytes.{Bytes}
 use Rattle.pc_outside.specs.Outside.{Rose}
 use Rattle.session_input.specs.Limits.{most_of}
 use Rattle.session_input.specs.Reads.{Reading, Gives, Refuses, ComesTo}
-use Rattle.session_input.specs.Sources.{accepted}
+use Rattle.session_input.specs.Sources.{accepted, lines_or_bad}
+use Rattle.ask_history.specs.declared.script.Line.{Line}
 use Rattle.session_input.specs.Faults.{CountsFaults, RoseIfFault}
 use Rattle.session_input.specs.declared.limits.Limit.{Limit}
 use Rattle.session_input.specs.declared.refusal.Refusal.{Refusal}
@@ -93,3 +94,8 @@ accepted_counts limit name bytes content result before now last = by (nat_lt (mo
   by false true = given_counts bytes content result before now last
   by false false = refused_counts (refusal.NotUtf8 name (utf8_valid_len bytes)) content result before now last tt
 
+
+pub lines_counts : (name : Bytes) (read : Result (List Line) ℕ) (content : Bytes → Option Bytes) (result : Result (List Line) NoInput) (before now : ℕ) (last : Option Bytes)
+    → ComesTo content (lines_or_bad name read) result → before ≤ now → CountsFaults result before now last
+lines_counts name (Ok lines) content result before now last comes risen = given_counts lines content result before now last comes risen
+lines_counts name (Err number) content result before now last comes risen = refused_counts (refusal.BadScript name number) content result before now last tt comes risen

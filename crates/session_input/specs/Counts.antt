@@ -23,7 +23,7 @@ passed limit number = if nat_lt (most_of limit) number then Some (limit, number)
 -- The first limit that is passed by so many call lines, whose reloads take up so much.
 abbrev pub first_passed : ℕ → Usage → Option (Limit × ℕ)
 first_passed calls usage =
-    option_or (passed Calls calls) (option_or (passed Text usage.text) (option_or (passed Names usage.names) (passed Map usage.map)))
+    option_or (option_or (option_or (passed Calls calls) (passed Text usage.text)) (passed Names usage.names)) (passed Map usage.map)
 
 -- the first limit that these lines pass, with their texts
 abbrev pub passed_by : List Line → Option (Limit × ℕ)

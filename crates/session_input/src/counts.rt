@@ -102,7 +102,13 @@ fn is_call_line(line: &Line) -> bool
 fn count_calls(lines: &[Line]) -> usize
     ensures { result ≡ count_by is_call_line lines.now }
 {
-    lines.iter().filter(|line| is_call_line(line)).count()
+    let mut calls = 0;
+    for line in lines {
+        if is_call_line(line) {
+            calls += 1;
+        }
+    }
+    calls
 }
 
 // The number, with its limit, where it is above it.

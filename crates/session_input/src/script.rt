@@ -17,6 +17,7 @@ use script_text::{ScriptRefused, read_schedule};
 use std::alloc::Global;
 
 // The lines of a schedule's text.
+#[tactic(auto, using(crate::proofs::PairLemmas::pairs_in_script))]
 fn lines_of(alloc: Global, name: &Text, text: &Text) -> Result<Row<Line>, NoInput>
     ensures comes { (content : List ℕ → _) → ComesTo content (lines_or_bad name.now (lines_read kind.Schedule text.now)) result }
     ensures few { IfOk result (λ lines. length (pairs_in lines) ≤ length text.now) }
