@@ -1,5 +1,5 @@
 -- Sources that are read one after another.
-use Rattle.std.proofs.Common.{◌≡◌, ◌⊎◌, inl, inr, ℕ, zero, suc, ◌+◌, ◌<◌, ◌≤◌, Bool, true, false, cond, ◌||◌, ◌==◌, nat_lt, List, [], ◌∷◌, ◌++◌, length, map, take, drop, get_or, drop-cons, add-one, append_assoc, append-nil, All, Option, Some, None, is_some, Result, Ok, Err, MatchResult, refl, sym, ap, ◌∙◌, subst, arith}
+use Rattle.std.proofs.Common.{◌≡◌, ◌⊎◌, inl, inr, ℕ, zero, suc, ◌+◌, ◌<◌, ◌≤◌, Bool, true, false, cond, ◌||◌, ◌==◌, nat_lt, List, [], ◌∷◌, ◌++◌, length, map, take, drop, get_or, drop-cons, add-one, append_assoc, append-nil, Option, Some, None, is_some, unwrap_or, Result, Ok, Err, MatchResult, refl, sym, ap, ◌∙◌, subst, arith}
 use Rattle.std.specs.List.{list_any, flat_map}
 use Rattle.std.specs.Str.{bytes_eq}
 use Rattle.std.proofs.lemmas.List.{take-append-drop}
@@ -10,7 +10,12 @@ use Rattle.std.proofs.lemmas.Bool.{false≢true}
 use Rattle.std.proofs.lemmas.Bool.Decides.{nat_tests}
 use Rattle.std.specs.Str.Lossy.{utf8_valid_len}
 use Rattle.pc_terms.specs.Bytes.{Bytes, max_source_bytes}
-use Rattle.ask_history.specs.Sources.{Sources, is_loaded}
+use Rattle.ask_history.specs.Sources.{Sources, text_of, is_loaded}
+use Rattle.script_text.specs.Texts.{text_at}
+use Rattle.session_input.specs.Counts.{HaveTexts}
+use Rattle.work_queue.proofs.Usages.{bytes_eq_refl}
+use Rattle.std.proofs.lemmas.List.Folds.{list_any-append}
+use Rattle.session_input.specs.declared.refusal.Refusal.TheVariants as refusal
 use Rattle.session_input.specs.Limits.{most_of}
 use Rattle.session_input.specs.Reads.{Reading, Gives, Refuses, Reads, then_reads, ComesTo}
 use Rattle.session_input.specs.Sources.{accepted, text_reading, pairs_of, pairs_in, sources_reading}
@@ -114,14 +119,93 @@ pairs_in-split lines i line within here =
 
 -- ---- what was read
 
-abbrev pub AreSmall : Sources → Type 0
-AreSmall sources = All (λ source. length source.1 ≤ max_source_bytes) sources
+abbrev AllSmall : Sources → Type 0
+AllSmall [] = Unit {0}
+AllSmall (source ∷ sources) = (length source.1 ≤ max_source_bytes) × AllSmall sources
 
-abbrev pub AreLoaded : Sources → List (Bytes × Bytes) → Type 0
-AreLoaded sources pairs = All (λ pair. is_loaded sources pair.1 ≡ true) pairs
+abbrev AllLoaded : Sources → List (Bytes × Bytes) → Type 0
+AllLoaded sources [] = Unit {0}
+AllLoaded sources (pair ∷ pairs) = (is_loaded sources pair.1 ≡ true) × AllLoaded sources pairs
 
--- what stands after sources were read
-pub record WereRead (before after : Sources) (pairs : List (Bytes × Bytes)) : Type 0 where
-  pub kept : (path : Bytes) → is_loaded before path ≡ true → is_loaded after path ≡ true
-  pub loaded : AreLoaded after pairs
-  pub small : AreSmall after
+small-push : (sources : Sources) (path text : Bytes) → AllSmall sources → length text ≤ max_source_bytes → AllSmall (sources ++ (path, text) ∷ [])
+small-push [] path text all small = (small, tt)
+small-push (source ∷ sources) path text all small = (all.0, small-push sources path text all.1 small)
+
+small_at : (sources : Sources) (path : Bytes) → AllSmall sources → is_loaded sources path ≡ true → length (text_at sources path) ≤ max_source_bytes
+small_at [] path all there = cc
+small_at (source ∷ sources) path all there = by (bytes_eq path source.0) there (small_at sources path all.1) where
+  by : (b : Bool) → (b || is_loaded sources path) ≡ true → (is_loaded sources path ≡ true → length (text_at sources path) ≤ max_source_bytes)
+      → length (unwrap_or (cond b (Some source.1) (text_of sources path)) path) ≤ max_source_bytes
+  by true e rest = all.0
+  by false e rest = rest e
+
+loaded-push : (sources : Sources) (path text other : Bytes) → is_loaded sources other ≡ true → is_loaded (sources ++ (path, text) ∷ []) other ≡ true
+loaded-push sources path text other there =
+    list_any-append (λ file. bytes_eq other file.0) sources ((path, text) ∷ []) ∙ ap (λ b. b || is_loaded ((path, text) ∷ []) other) there
+
+loaded-new : (sources : Sources) (path text : Bytes) → is_loaded (sources ++ (path, text) ∷ []) path ≡ true
+loaded-new sources path text =
+    list_any-append (λ file. bytes_eq path file.0) sources ((path, text) ∷ []) ∙ by (is_loaded sources path) (bytes_eq path path) (bytes_eq_refl path) where
+  by : (b c : Bool) → c ≡ true → (b || (c || false)) ≡ true
+  by true c e = refl
+  by false c e = ap (λ d. d || false) e
+
+-- after sources were read, those before are still there, those of the pairs are, and all are small
+record WereRead (before after : Sources) (pairs : List (Bytes × Bytes)) : Type 0 where
+  kept : (path : Bytes) → is_loaded before path ≡ true → is_loaded after path ≡ true
+  loaded : AllLoaded after pairs
+  small : AllSmall after
+
+read-known : (before after : Sources) (pair : Bytes × Bytes) (pairs : List (Bytes × Bytes)) → is_loaded before pair.1 ≡ true → WereRead before after pairs → WereRead before after (pair ∷ pairs)
+read-known before after pair pairs known rest = record { kept = rest.kept; loaded = (rest.kept pair.1 known, rest.loaded); small = rest.small }
+
+read-new : (before after : Sources) (pair : Bytes × Bytes) (text : Bytes) (pairs : List (Bytes × Bytes)) → WereRead (before ++ (pair.1, text) ∷ []) after pairs → WereRead before after (pair ∷ pairs)
+read-new before after pair text pairs rest = record {
+  kept = λ path there. rest.kept path (loaded-push before pair.1 text path there);
+  loaded = (rest.kept pair.1 (loaded-new before pair.1 text), rest.loaded);
+  small = rest.small;
+}
+
+-- what is known of the pairs that are left
+abbrev Rest : (Bytes → Option Bytes) → List (Bytes × Bytes) → Sources → Type 0
+Rest content pairs after = (more : Sources) → AllSmall more → ComesTo content (sources_reading more pairs) (Ok after) → WereRead more after pairs
+
+were_read : (content : Bytes → Option Bytes) (pairs : List (Bytes × Bytes)) (before after : Sources) → AllSmall before
+    → ComesTo content (sources_reading before pairs) (Ok after) → WereRead before after pairs
+were_read content [] before after small (inl same) =
+    let e : after ≡ before = cc in record { kept = λ path there. subst (λ (s : Sources). is_loaded s path ≡ true) (sym e) there; loaded = tt; small = subst AllSmall (sym e) small }
+were_read content [] before after small (inr wrong) = cc
+were_read content (pair ∷ pairs) before after small comes =
+    by (λ more is. were_read content pairs more after is) (is_loaded before pair.1) refl comes where
+  from_bytes : Rest content pairs after → (bytes : Bytes) (long whole : Bool) → nat_lt max_source_bytes (length bytes) ≡ long
+      → ComesTo content (then_reads (λ text. sources_reading (before ++ (pair.1, text) ∷ []) pairs) (cond long (Refuses (refusal.Limit FileBytes (max_source_bytes + 1))) (cond whole (Gives bytes) (Refuses (refusal.NotUtf8 pair.1 (utf8_valid_len bytes)))))) (Ok after)
+      → WereRead before after (pair ∷ pairs)
+  from_bytes rest bytes true whole short (inl wrong) = cc
+  from_bytes rest bytes true whole short (inr wrong) = cc
+  from_bytes rest bytes false true short come =
+      let within : length bytes ≤ max_source_bytes = grind (arith, nat_tests) in
+      read-new before after pair bytes pairs (rest (before ++ (pair.1, bytes) ∷ []) (small-push before pair.1 bytes small within) come)
+  from_bytes rest bytes false false short (inl wrong) = cc
+  from_bytes rest bytes false false short (inr wrong) = cc
+
+  from_read : Rest content pairs after → ComesTo content (then_reads (λ text. sources_reading (before ++ (pair.1, text) ∷ []) pairs) (text_reading FileBytes pair.1)) (Ok after) → WereRead before after (pair ∷ pairs)
+  from_read rest (inl (inl wrong)) = cc
+  from_read rest (inl (inr wrong)) = cc
+  from_read rest (inr (bytes, begins, come)) =
+      from_bytes rest bytes (nat_lt max_source_bytes (length bytes)) (utf8_valid_len bytes == length bytes) refl come
+
+  by : Rest content pairs after → (b : Bool) → is_loaded before pair.1 ≡ b
+      → ComesTo content (cond b (sources_reading before pairs) (then_reads (λ text. sources_reading (before ++ (pair.1, text) ∷ []) pairs) (text_reading FileBytes pair.1))) (Ok after) → WereRead before after (pair ∷ pairs)
+  by rest true known come = read-known before after pair pairs known (rest before small come)
+  by rest false new come = from_read rest come
+
+texts_of : (sources : Sources) (pairs : List (Bytes × Bytes)) → AllSmall sources → AllLoaded sources pairs → HaveTexts sources pairs
+texts_of sources [] small loaded = λ k d within. absurd (omega arith)
+texts_of sources (pair ∷ pairs) small loaded = λ k d within. by d k within (texts_of sources pairs small loaded.1) where
+  by : (d : Bytes × Bytes) (k : ℕ) → k < length (pair ∷ pairs) → HaveTexts sources pairs → length (text_at sources (get_or (pair ∷ pairs) k d).1) ≤ max_source_bytes
+  by d zero within rest = small_at sources pair.1 small loaded.0
+  by d (suc k) within rest = rest k d (omega arith)
+
+-- each path that was to be read has a text, and none is longer than a file may be
+pub have_texts : (content : Bytes → Option Bytes) (pairs : List (Bytes × Bytes)) (sources : Sources) → ComesTo content (sources_reading [] pairs) (Ok sources) → HaveTexts sources pairs
+have_texts content pairs sources comes = let read = were_read content pairs [] sources tt comes in texts_of sources pairs read.small read.loaded
