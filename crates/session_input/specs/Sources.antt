@@ -1,9 +1,10 @@
 -- The files of a session: a script, and then the sources that it names.
-use Rattle.std.specs.Prelude.{ℕ, ◌+◌, ◌==◌, nat_lt, if◌then◌else◌, List, [], ◌∷◌, ◌++◌, length, Result, Ok, Err}
+use Rattle.std.specs.Prelude.{ℕ, ◌+◌, ◌==◌, nat_lt, if◌then◌else◌, Bool, true, List, [], ◌∷◌, ◌++◌, length, Result, Ok, Err}
 use Rattle.std.specs.List.{flat_map}
 use Rattle.std.specs.Str.Lossy.{utf8_valid_len}
 use Rattle.pc_terms.specs.Bytes.{Bytes}
 use Rattle.ask_history.specs.Sources.{Sources, is_loaded}
+use Rattle.ask_history.specs.Engine.{has_file_names}
 use Rattle.ask_history.specs.declared.script.Order.{Order}
 use Rattle.ask_history.specs.declared.script.Order.TheVariants as order
 use Rattle.ask_history.specs.declared.script.Line.{Line}
@@ -46,6 +47,14 @@ pairs_of _ = []
 
 abbrev pub pairs_in : List Line → List (Bytes × Bytes)
 pairs_in lines = flat_map (λ line. pairs_of line.order) lines
+
+abbrev pub order_names_files : Order → Bool
+order_names_files (order.Call call) = has_file_names call
+order_names_files _ = true
+
+-- every file that a line names has a name that a file may have
+abbrev pub names_files : Line → Bool
+names_files line = order_names_files line.order
 
 -- The texts of the paths of these pairs, after the sources that were read so far. Each path is read once, where it is
 -- named first.

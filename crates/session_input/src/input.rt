@@ -1,13 +1,14 @@
 //! Reads the input of a session.
 
-ghost use Rattle.std.specs.Prelude.{◌≡◌, ◌≤◌, ℕ, List, length, map, IfOk};
+ghost use Rattle.std.specs.Prelude.{◌≡◌, ◌≤◌, ℕ, true, List, length, map, IfOk};
+ghost use Rattle.std.specs.List.{list_all};
 ghost use Rattle.script_text.specs.Texts.{line_with};
 ghost use Rattle.session_input.specs.Counts.{HaveTexts};
 ghost use Rattle.session_input.specs.Faults.{CountsFaults};
 ghost use Rattle.session_input.specs.Input.{within_limits, schedule_reading};
 ghost use Rattle.session_input.specs.Limits as limits;
 ghost use Rattle.session_input.specs.Reads.{ComesTo};
-ghost use Rattle.session_input.specs.Sources.{pairs_in};
+ghost use Rattle.session_input.specs.Sources.{pairs_in, names_files};
 
 use crate::counts::passed_by;
 use crate::script::read_lines;
@@ -34,6 +35,7 @@ fn lines_with(
 }
 
 // The lines with their texts, unless they pass a limit.
+#[tactic(auto, using(crate::proofs::PairLemmas::text_rules))]
 fn lines_within(
     alloc: Global,
     lines: Row<Line>,
@@ -41,7 +43,9 @@ fn lines_within(
 ) -> Result<Row<Line>, NoInput>
     requires few { length (pairs_in lines) ≤ limits.most_of Limit.ScriptBytes }
     requires texts { HaveTexts sources.entries (pairs_in lines) }
-    ensures { (content : List ℕ → _) → ComesTo content (within_limits (map (line_with sources.entries) lines)) result }
+    ensures comes { (content : List ℕ → _) → ComesTo content (within_limits (map (line_with sources.entries) lines)) result }
+    ensures few { IfOk result (λ found. length (pairs_in found) ≤ length (pairs_in lines)) }
+    ensures names { IfOk result (λ found. list_all names_files found ≡ list_all names_files lines) }
 {
     match passed_by(alloc, &sources, lines.as_slice())? {
         Some((limit, value)) => Err(NoInput::Refused(Refusal::Limit(limit, value))),
@@ -57,6 +61,8 @@ pub fn read_schedule_input<F: Files>(
     schedule: &Text,
 ) -> Result<Row<Line>, NoInput>
     ensures comes { ComesTo (F.content files.old) (schedule_reading schedule.now) result }
+    ensures few { IfOk result (λ lines. length (pairs_in lines) ≤ limits.most_of Limit.ScriptBytes) }
+    ensures names { IfOk result (λ lines. list_all names_files lines ≡ true) }
     ensures content { (other : List ℕ) → F.content files.new other ≡ F.content files.old other }
     ensures counts { CountsFaults result (F.faults files.old) (F.faults files.new) (F.last_failed files.new) }
 {

@@ -1,10 +1,11 @@
 //! Reads a script.
 
-ghost use Rattle.std.specs.Prelude.{◌≡◌, ◌≤◌, ◌+◌, ℕ, List, length, IfOk};
+ghost use Rattle.std.specs.Prelude.{◌≡◌, ◌≤◌, ℕ, true, List, length, IfOk};
+ghost use Rattle.std.specs.List.{list_all};
 ghost use Rattle.session_input.specs.Faults.{CountsFaults};
 ghost use Rattle.session_input.specs.Limits as limits;
 ghost use Rattle.session_input.specs.Reads.{ComesTo};
-ghost use Rattle.session_input.specs.Sources.{lines_or_bad, script_reading, pairs_in};
+ghost use Rattle.session_input.specs.Sources.{lines_or_bad, script_reading, pairs_in, names_files};
 ghost use Rattle.script_text.specs.Reading.{lines_read};
 ghost use Rattle.script_text.specs.declared.kinds.ScriptKind.TheVariants as kind;
 
@@ -17,10 +18,11 @@ use script_text::{ScriptRefused, read_schedule};
 use std::alloc::Global;
 
 // The lines of a schedule's text.
-#[tactic(auto, using(crate::proofs::PairLemmas::pairs_in_script))]
+#[tactic(auto, using(crate::proofs::PairLemmas::script_rules))]
 fn lines_of(alloc: Global, name: &Text, text: &Text) -> Result<Row<Line>, NoInput>
     ensures comes { (content : List ℕ → _) → ComesTo content (lines_or_bad name.now (lines_read kind.Schedule text.now)) result }
     ensures few { IfOk result (λ lines. length (pairs_in lines) ≤ length text.now) }
+    ensures names { IfOk result (λ lines. list_all names_files lines ≡ true) }
 {
     match read_schedule(alloc, text.as_str()) {
         Ok(schedule) => {
@@ -43,6 +45,7 @@ pub fn read_lines<F: Files>(
 ) -> Result<Row<Line>, NoInput>
     ensures comes { ComesTo (F.content files.old) (script_reading kind.Schedule schedule.now) result }
     ensures few { IfOk result (λ lines. length (pairs_in lines) ≤ limits.most_of Limit.ScriptBytes) }
+    ensures names { IfOk result (λ lines. list_all names_files lines ≡ true) }
     ensures content { (other : List ℕ) → F.content files.new other ≡ F.content files.old other }
     ensures counts { CountsFaults result (F.faults files.old) (F.faults files.new) (F.last_failed files.new) }
 {

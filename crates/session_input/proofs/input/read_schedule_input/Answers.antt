@@ -26,13 +26,13 @@ returns-in-Ok-read_sources-clause-comes g c =
     let later = g.F.Files.content c.read_lines.new.files in
     let comes = rw c.as_slice.ensures at c.in-Ok-read_sources.ensures.comes in
     sources_lead content later c.args.schedule.now c.in-Ok.lines (same_content later content c.in-Ok.ensures.content) c.in-Ok.ensures.comes
-    c.in-Ok-read_sources.sources.entries c.lines_within.result comes (c.lines_within.ensures later)
+    c.in-Ok-read_sources.sources.entries c.lines_within.result comes (c.lines_within.ensures.comes later)
 
 pub returns-in-Ok-read_sources-clause-counts : goal.returns-in-Ok-read_sources-clause-counts
 returns-in-Ok-read_sources-clause-counts g c =
     within_counts (map (line_with c.in-Ok-read_sources.sources.entries) c.in-Ok.lines) (g.F.Files.content c.args.files.now) c.lines_within.result
     (g.F.Files.faults c.args.files.now) (g.F.Files.faults c.read_sources.new.files) (g.F.Files.last_failed c.read_sources.new.files)
-    (c.lines_within.ensures (g.F.Files.content c.args.files.now)) (omega (arith, c.in-Ok.ensures.counts, c.in-Ok-read_sources.ensures.counts))
+    (c.lines_within.ensures.comes (g.F.Files.content c.args.files.now)) (omega (arith, c.in-Ok.ensures.counts, c.in-Ok-read_sources.ensures.counts))
 
 pub returns-in-Err-read_sources-clause-comes : goal.returns-in-Err-read_sources-clause-comes
 returns-in-Err-read_sources-clause-comes g c =
