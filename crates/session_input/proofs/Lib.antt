@@ -1,4 +1,5 @@
 pub mod CountLemmas
+pub mod FaultLemmas
 pub mod InputLemmas
 pub mod PairLemmas
 pub mod ReadLemmas

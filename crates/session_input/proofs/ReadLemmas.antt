@@ -48,3 +48,31 @@ comes_to-then_ok content more (Reads limit name next) a result (inr (bytes, begi
 
 pub same_content : (a b : Bytes → Option Bytes) → ((other : Bytes) → a other ≡ b other) → a ≡ b
 same_content a b same = λ i other. same other i
+
+-- a reading after which another stands ends in the one or in the other
+pub comes_to-split : {A B : Type 0} (content : Bytes → Option Bytes) (more : A → Reading B) (reading : Reading A) (none : NoInput) → ComesTo {A = B} content (then_reads more reading) (Err none)
+    → ComesTo {A = A} content reading (Err none) ⊎ ((a : A) × ComesTo content reading (Ok a) × ComesTo {A = B} content (more a) (Err none))
+comes_to-split content more (Gives a) none comes = inr (a, inl refl, comes)
+comes_to-split content more (Refuses why) none comes = inl (or_err (Refused why) none comes)
+comes_to-split content more (Reads limit name next) none (inl failed) = inl (inl (or_err (Refused (refusal.ReadFault name)) none failed))
+comes_to-split {A = A} {B = B} content more (Reads limit name next) none (inr (bytes, begins, comes)) = by (comes_to-split content more (next bytes) none comes) where
+  by : ComesTo content (next bytes) (Err none) ⊎ ((a : A) × ComesTo content (next bytes) (Ok a) × ComesTo {A = B} content (more a) (Err none))
+      → ComesTo {A = A} content (Reads limit name next) (Err none) ⊎ ((a : A) × ComesTo content (Reads limit name next) (Ok a) × ComesTo {A = B} content (more a) (Err none))
+  by (inl first) = inl (inr (bytes, begins, first))
+  by (inr (a, first, second)) = inr (a, inr (bytes, begins, first), second)
+
+-- where the contents tell an answer, nothing but a fault of reading is told in its place
+pub fault_or_told : {A : Type 0} (content : Bytes → Option Bytes) (reading : Reading A) (a : A) (why : Refusal) → told content reading ≡ Some (Ok a)
+    → ComesTo {A = A} content reading (Err (Refused why)) → (name : Bytes) × (why ≡ refusal.ReadFault name)
+fault_or_told content (Gives b) a why is (inl wrong) = cc
+fault_or_told content (Gives b) a why is (inr wrong) = cc
+fault_or_told content (Refuses other) a why is comes = cc
+fault_or_told content (Reads limit name next) a why is (inl (inl same)) = (name, cc)
+fault_or_told content (Reads limit name next) a why is (inl (inr wrong)) = cc
+fault_or_told content (Reads limit name next) a why is (inr (bytes, begins, comes)) =
+    by (content name) is begins (λ text same is_told. fault_or_told content (next bytes) a why (ap (λ b. told content (next b)) same ∙ is_told) comes) where
+  by : (c : Option Bytes) → if_told (λ b. told content (next (take (most_of limit + 1) b))) c ≡ Some (Ok a) → IsBeginning c (most_of limit + 1) bytes
+      → ((text : Bytes) → bytes ≡ take (most_of limit + 1) text → told content (next (take (most_of limit + 1) text)) ≡ Some (Ok a) → (name : Bytes) × (why ≡ refusal.ReadFault name))
+      → (name : Bytes) × (why ≡ refusal.ReadFault name)
+  by None wrong begin more = cc
+  by (Some text) is_told begin more = more text begin is_told

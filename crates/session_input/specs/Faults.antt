@@ -1,7 +1,11 @@
 -- When a fault of reading is told.
-use Rattle.std.specs.Prelude.{◌≡◌, ◌≤◌, ℕ, Option, Result, Ok, Err, IfSome}
+use Rattle.std.specs.Prelude.{◌≡◌, ◌≤◌, ◌⊎◌, ℕ, List, [], ◌∷◌, Option, Result, Ok, Err, IfSome}
 use Rattle.pc_terms.specs.Bytes.{Bytes}
 use Rattle.pc_outside.specs.Outside.{Rose}
+use Rattle.ask_history.specs.declared.script.Line.{Line}
+use Rattle.script_text.specs.declared.kinds.ScriptKind.TheVariants as kind
+use Rattle.session_input.specs.Reads.{ComesTo}
+use Rattle.session_input.specs.Sources.{script_reading, pairs_in}
 use Rattle.session_input.specs.declared.refusal.Refusal.{Refusal}
 use Rattle.session_input.specs.declared.refusal.Refusal.TheVariants.{ReadFault}
 use Rattle.session_input.specs.declared.refusal.NoInput.{NoInput}
@@ -16,3 +20,15 @@ RoseIfFault _ before now last = Unit {0}
 abbrev pub CountsFaults : {A : Type 0} → Result A NoInput → ℕ → ℕ → Option Bytes → Type 0
 CountsFaults (Err (Refused why)) before now last = (before ≤ now) × RoseIfFault why before now last
 CountsFaults _ before now last = before ≤ now
+
+-- ---- which file a fault of reading names
+
+-- the path of one of these pairs
+abbrev pub IsPathIn : List (Bytes × Bytes) → Bytes → Type 0
+IsPathIn [] file = ⊥
+IsPathIn (pair ∷ pairs) file = (file ≡ pair.1) ⊎ IsPathIn pairs file
+
+-- the schedule, or a path of one of the lines that it has
+abbrev pub IsReadFor : (Bytes → Option Bytes) → Bytes → Bytes → Type 0
+IsReadFor content schedule file =
+    (file ≡ schedule) ⊎ ((lines : List Line) × ComesTo content (script_reading kind.Schedule schedule) (Ok lines) × IsPathIn (pairs_in lines) file)

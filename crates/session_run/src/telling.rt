@@ -2,21 +2,37 @@
 
 ghost use Rattle.std.specs.Prelude.{◌≡◌, ◌++◌, ◌⊎◌, true, [], IfOk};
 ghost use Rattle.std.specs.Option.{option_map};
-ghost use Rattle.presentation_cli.specs.Run as spec;
-ghost use Rattle.presentation_cli.specs.Telling.{IsOrNoMemory};
-ghost use Rattle.presentation_cli.specs.declared.ending.Ending.TheVariants as ending;
+ghost use Rattle.session_run.specs.Run as spec;
+ghost use Rattle.session_run.specs.Telling.{IsOrNoMemory};
+ghost use Rattle.session_run.specs.declared.ending.Ending.TheVariants as ending;
 
-use crate::ending::{Ending, Limit};
+use crate::Ending;
 use pc_outside::Sink;
 use pc_terms::{NoMemory, Text};
+use session_input::{Limit, Refusal};
 use std::alloc::Global;
 
 fn limit_name(limit: Limit) -> &'static str
     ensures { result.now ≡ spec.limit_name limit }
 {
     match limit {
-        Limit::ScriptBytes => "ScriptBytes",
         Limit::FileBytes => "FileBytes",
+        Limit::ScriptBytes => "ScriptBytes",
+        Limit::Calls => "Calls",
+        Limit::Text => "Text",
+        Limit::Names => "Names",
+        Limit::Map => "Map",
+    }
+}
+
+fn refusal_status(why: &Refusal) -> u8
+    ensures { result ≡ spec.refusal_status why.now }
+{
+    match why {
+        Refusal::ReadFault(_) => 3,
+        Refusal::BadScript(_, _) => 4,
+        Refusal::Limit(_, _) => 8,
+        Refusal::NotUtf8(_, _) => 9,
     }
 }
 
@@ -27,12 +43,9 @@ pub fn status_of(ending: &Ending) -> u8
     match ending {
         Ending::Done => 0,
         Ending::Usage => 2,
-        Ending::ReadFault(_) => 3,
-        Ending::BadScript(_, _) => 4,
+        Ending::Refused(why) => refusal_status(why),
         Ending::WriteFault => 5,
         Ending::NoMemory => 7,
-        Ending::Limit(_, _) => 8,
-        Ending::NotUtf8(_, _) => 9,
     }
 }
 
@@ -96,18 +109,14 @@ fn read_fault_line(alloc: Global, name: &Text) -> Result<Text, NoMemory>
     Ok(text)
 }
 
-fn line_of(alloc: Global, ending: &Ending) -> Result<Text, NoMemory>
-    ensures { IfOk result (λ text. text ≡ spec.line_text ending.now) }
+fn refusal_line(alloc: Global, why: &Refusal) -> Result<Text, NoMemory>
+    ensures { IfOk result (λ text. text ≡ spec.refusal_text why.now) }
 {
-    match ending {
-        Ending::Done => Text::new(alloc, ""),
-        Ending::Usage => Text::new(alloc, usage_line()),
-        Ending::ReadFault(name) => read_fault_line(alloc, name),
-        Ending::BadScript(name, line) => bad_script_line(alloc, name, *line),
-        Ending::WriteFault => Text::new(alloc, write_fault_line()),
-        Ending::NoMemory => Text::new(alloc, no_memory_line()),
-        Ending::Limit(limit, value) => limit_line(alloc, *limit, *value),
-        Ending::NotUtf8(name, byte) => not_utf8_line(alloc, name, *byte),
+    match why {
+        Refusal::ReadFault(name) => read_fault_line(alloc, name),
+        Refusal::BadScript(name, line) => bad_script_line(alloc, name, *line),
+        Refusal::Limit(limit, value) => limit_line(alloc, *limit, *value),
+        Refusal::NotUtf8(name, byte) => not_utf8_line(alloc, name, *byte),
     }
 }
 
@@ -121,8 +130,7 @@ fn put_line<E: Sink>(err: &mut E, line: &str)
     }
 }
 
-/// Tells how a run ended. Where there is no memory for the line of an ending that was to be told, the run ends out of
-/// memory.
+/// Tells how a run ended. Where there is no memory for the line of a refusal, the run ends out of memory.
 pub fn tell<E: Sink>(alloc: Global, err: &mut E, ending: Ending) -> Ending
     ensures told { E.whole err.new ≡ true → E.written err.new ≡ option_map (λ bytes. bytes ++ spec.line_text result) (E.written err.old) }
     ensures same { IsOrNoMemory ending result }
@@ -141,10 +149,10 @@ pub fn tell<E: Sink>(alloc: Global, err: &mut E, ending: Ending) -> Ending
             put_line(err, no_memory_line());
             Ending::NoMemory
         }
-        ending => match line_of(alloc, &ending) {
+        Ending::Refused(why) => match refusal_line(alloc, &why) {
             Ok(line) => {
                 put_line(err, line.as_str());
-                ending
+                Ending::Refused(why)
             }
             Err(NoMemory {}) => {
                 put_line(err, no_memory_line());
