@@ -24,7 +24,7 @@ use Rattle.session_run.specs.Session.{EndsSession, IsSessionEnding, SessionSeen,
 use Rattle.session_run.specs.Reading.{HasWriteFault}
 use Rattle.session_run.specs.Shown.{shown_line}
 use Rattle.session_run.proofs.ShownLemmas.{session-shown}
-use Rattle.report_hub.specs.Telling.{ReporterState}
+use Rattle.report_hub.specs.Telling.{Finding, ReporterState}
 use Rattle.report_hub.specs.Told.{WasToldMost}
 use Rattle.report_hub.proofs.Reports.{WasToldMost-none}
 use Rattle.ask_history.specs.declared.events.Journal.{Journal}
@@ -123,3 +123,7 @@ session_nothing answer_of problems_of lines out put_faults state reporter fresh 
   reported = WasToldMost-none reporter;
   engine = record { sources = ap (λ s. s.sources) fresh; asks = ap (λ s. s.asks) fresh; staged = ap (λ s. s.staged) fresh };
 }
+
+-- of nothing that was found a reporter is told nothing
+pub nothing_told : (found : List Finding) (state : ReporterState) → found ≡ [] → WasToldMost found state state
+nothing_told found state none = subst (λ (f : List Finding). WasToldMost f state state) (sym none) (WasToldMost-none state)

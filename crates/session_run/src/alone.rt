@@ -36,8 +36,8 @@ fn run_words<F: Files, O: Sink, N: Engine>(
           out' = O.written out.new;
           engine = N.state engine.old;
           engine' = N.state engine.new;
-          reporter = record { told = (⟦<dyn Reporter + Send as Reporter>⟧ reporter.vtable).told reporter.value; faults = (⟦<dyn Reporter + Send as Reporter>⟧ reporter.vtable).faults reporter.value };
-          reporter' = record { told = (⟦<dyn Reporter + Send as Reporter>⟧ result.reporter.vtable).told result.reporter.value; faults = (⟦<dyn Reporter + Send as Reporter>⟧ result.reporter.vtable).faults result.reporter.value };
+          reporter = record { told = told reporter; faults = (Reporter-box reporter).faults reporter.value };
+          reporter' = record { told = told result.reporter; faults = (Reporter-box result.reporter).faults result.reporter.value };
         })
         result.ending result.journal.events }
     ensures given_back { IsSameBox reporter result.reporter }
@@ -71,8 +71,8 @@ pub fn run_alone<F: Files, O: Sink, E: Sink, N: Engine>(
           out' = O.written out.new;
           engine = N.state engine.old;
           engine' = N.state engine.new;
-          reporter = record { told = (⟦<dyn Reporter + Send as Reporter>⟧ reporter.vtable).told reporter.value; faults = (⟦<dyn Reporter + Send as Reporter>⟧ reporter.vtable).faults reporter.value };
-          reporter' = record { told = (⟦<dyn Reporter + Send as Reporter>⟧ result.reporter.vtable).told result.reporter.value; faults = (⟦<dyn Reporter + Send as Reporter>⟧ result.reporter.vtable).faults result.reporter.value };
+          reporter = record { told = told reporter; faults = (Reporter-box reporter).faults reporter.value };
+          reporter' = record { told = told result.reporter; faults = (Reporter-box result.reporter).faults result.reporter.value };
         })
         (record { err = E.written err.old; err' = E.written err.new; whole' = E.whole err.new })
         (record { status = result.status; ending = result.ending; journal = result.journal.events }) }

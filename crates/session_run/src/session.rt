@@ -89,8 +89,8 @@ pub fn run_lines<O: Sink, N: Engine>(
           out = O.written out.old;
           out' = O.written out.new;
           engine' = N.state engine.new;
-          reporter = record { told = (⟦<dyn Reporter + Send as Reporter>⟧ reporter.vtable).told reporter.value; faults = (⟦<dyn Reporter + Send as Reporter>⟧ reporter.vtable).faults reporter.value };
-          reporter' = record { told = (⟦<dyn Reporter + Send as Reporter>⟧ result.reporter.vtable).told result.reporter.value; faults = (⟦<dyn Reporter + Send as Reporter>⟧ result.reporter.vtable).faults result.reporter.value };
+          reporter = record { told = told reporter; faults = (Reporter-box reporter).faults reporter.value };
+          reporter' = record { told = told result.reporter; faults = (Reporter-box result.reporter).faults result.reporter.value };
         })
         result.ending result.journal.events }
     ensures given_back { IsSameBox reporter result.reporter }
