@@ -1,6 +1,7 @@
 pub mod Owed
 pub mod Printed
 pub mod Reading
+pub mod Reporters
 pub mod Run
 pub mod Session
 pub mod Shown

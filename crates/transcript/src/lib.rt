@@ -13,6 +13,8 @@ mod journal;
 mod names;
 mod outcomes;
 
+pub use journal::print_checked;
+
 use ask_history::{Answer, Journal, Script};
 use entries::push_clients;
 use fields::push_count;
