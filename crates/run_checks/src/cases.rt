@@ -43,9 +43,6 @@ pub const USAGE: &str = "usage: batch NAME... or step SCHEDULE or replay CLIENT.
 /// 22 bytes.
 pub const A: &str = "object A { val x = 1 }";
 
-/// 33 bytes.
-pub const B: &str = "object B { val a = b; val b = 1 }";
-
 /// 24 bytes.
 pub const A2: &str = "object A { val x = \"s\" }";
 

@@ -1,7 +1,10 @@
 //! Inner lines, cancels, the shutdown and checks.
 
-use crate::cases::{A, A2, B, Case, agree, done};
+use crate::cases::{A, A2, Case, agree, done};
 use std::test::Fail;
+
+// 33 bytes, all of which the engine reads.
+const THIN_B: &str = "object B { val a = 1; val b = a }";
 
 #[test]
 fn asks_are_cancelled_and_shut_down(rt: HostRuntime) -> Result<(), Fail> {
@@ -141,7 +144,7 @@ fn checks_are_made_and_told(rt: HostRuntime) -> Result<(), Fail> {
                 "reload A.scala a.txt B.scala b.txt\nidle\n  @1.0 reload A.scala a2.txt\n",
             ),
             ("a.txt", A),
-            ("b.txt", B),
+            ("b.txt", THIN_B),
             ("a2.txt", A2),
         ],
         "journal\t7\n\

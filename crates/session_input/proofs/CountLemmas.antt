@@ -1,16 +1,13 @@
 -- What is counted of one pair after another.
-use Rattle.std.proofs.Common.{◌≡◌, ℕ, ◌+◌, ◌-◌, ◌*◌, ◌^◌, ◌<◌, ◌≤◌, max, Bool, true, false, cond, List, [], ◌∷◌, ◌++◌, length, map, take, drop, count_by, All, append_assoc, append-nil, length-append, get_or, Option, Some, None, is_some, unwrap_or, zero-add, refl, sym, ap, ◌∙◌, subst, arith}
-use Rattle.std.specs.List.{flat_map}
+use Rattle.std.proofs.Common.{◌≡◌, ℕ, ◌+◌, ◌-◌, ◌<◌, ◌≤◌, max, Bool, true, false, cond, List, [], ◌∷◌, ◌++◌, length, map, take, count_by, append_assoc, append-nil, length-append, get_or, Option, Some, None, is_some, unwrap_or, zero-add, refl, sym, ap, ◌∙◌, subst, arith}
 use Rattle.std.specs.Str.{bytes_eq}
 use Rattle.std.specs.Map.{update, lookup}
 use Rattle.script_text.proofs.TextLemmas.{take_one_more}
 use Rattle.std.proofs.lemmas.List.{length-map, map-append, get_or_append_left, get_or-append-add}
-use Rattle.std.proofs.lemmas.List.Concat.{flat_map-append}
 use Rattle.std.proofs.lemmas.List.Sums.{sum_by-append, sum_by-cons}
 use Rattle.indexmap.specs.IndexMap.{IndexMap, get}
 use Rattle.pc_terms.specs.Bytes.{Bytes, max_source_bytes}
 use Rattle.ask_history.specs.Sources.{Sources, text_of}
-use Rattle.ask_history.specs.declared.calls.Call.{Call}
 use Rattle.ask_history.specs.declared.calls.Call.TheVariants.{Reload, Remove, TypeAt, MembersAt, ScopeAt, LinkAt, Structure, LoadedTyped}
 use Rattle.ask_history.specs.declared.script.Order.{Order}
 use Rattle.ask_history.specs.declared.script.Order.TheVariants as order
@@ -18,7 +15,7 @@ use Rattle.ask_history.specs.declared.script.Line.{Line}
 use Rattle.script_text.specs.Standing.{is_call_line}
 use Rattle.script_text.specs.Texts.{text_at, entry_with, order_with, line_with}
 use Rattle.work_queue.specs.declared.usage.Usage.{Usage}
-use Rattle.work_queue.specs.Reloads.{longest, usage_of, with_text}
+use Rattle.work_queue.specs.Reloads.{usage_of, with_text}
 use Rattle.work_queue.proofs.Usages.{usage_of-push, longest-update}
 use Rattle.session_input.specs.Sources.{pairs_of, pairs_in}
 use Rattle.session_input.specs.Counts.{AreCounted, HasRoom, CountsMore, HaveTexts}

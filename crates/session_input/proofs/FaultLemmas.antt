@@ -1,5 +1,5 @@
 -- A fault of reading names a file that is read.
-use Rattle.std.proofs.Common.{◌≡◌, ◌⊎◌, inl, inr, ℕ, ◌+◌, Bool, true, false, cond, ◌==◌, nat_lt, List, [], ◌∷◌, ◌++◌, length, map, Option, Some, None, Result, Ok, Err, refl}
+use Rattle.std.proofs.Common.{◌≡◌, inl, inr, ℕ, ◌+◌, Bool, true, false, cond, ◌==◌, nat_lt, List, [], ◌∷◌, ◌++◌, length, map, Option, Some, None, Result, Ok, Err}
 use Rattle.std.specs.Str.Lossy.{utf8_valid_len}
 use Rattle.pc_terms.specs.Bytes.{Bytes}
 use Rattle.ask_history.specs.Sources.{Sources, is_loaded}
@@ -8,17 +8,15 @@ use Rattle.script_text.specs.Texts.{line_with}
 use Rattle.script_text.specs.Reading.{lines_read}
 use Rattle.script_text.specs.declared.kinds.ScriptKind.TheVariants as kind
 use Rattle.session_input.specs.Limits.{most_of}
-use Rattle.session_input.specs.Reads.{Reading, Gives, Refuses, then_reads, ComesTo}
+use Rattle.session_input.specs.Reads.{Gives, Refuses, then_reads, ComesTo}
 use Rattle.session_input.specs.Sources.{accepted, text_reading, lines_or_bad, script_reading, pairs_in, sources_reading}
 use Rattle.session_input.specs.Counts.{passed_by}
 use Rattle.session_input.specs.Input.{unless_passed, within_limits, with_sources, schedule_reading}
 use Rattle.session_input.specs.Faults.{IsPathIn, IsReadFor}
 use Rattle.session_input.specs.declared.limits.Limit.{Limit}
 use Rattle.session_input.specs.declared.limits.Limit.TheVariants as limit
-use Rattle.session_input.specs.declared.refusal.Refusal.{Refusal}
 use Rattle.session_input.specs.declared.refusal.Refusal.TheVariants as refusal
-use Rattle.session_input.specs.declared.refusal.NoInput.{NoInput}
-use Rattle.session_input.specs.declared.refusal.NoInput.TheVariants.{Refused, NoMemory}
+use Rattle.session_input.specs.declared.refusal.NoInput.TheVariants.{Refused}
 use Rattle.session_input.proofs.ReadLemmas.{comes_to-split}
 
 in_accepted : (content : Bytes → Option Bytes) (limit : Limit) (of name bytes : Bytes) → ComesTo {A = Bytes} content (accepted limit of bytes) (Err (Refused (refusal.ReadFault name))) → ⊥
@@ -62,27 +60,27 @@ in_sources content name (pair ∷ pairs) before comes = by (λ more rest. in_sou
   by rest true come = inr (rest before come)
   by rest false come =
       elim (comes_to-split content (λ text. sources_reading (before ++ (pair.1, text) ∷ []) pairs) (text_reading limit.FileBytes pair.1) (Refused (refusal.ReadFault name)) come) [
-    | inl own ↦ inl (in_text content limit.FileBytes pair.1 name own)
-    | inr (text, own, later) ↦ inr (rest (before ++ (pair.1, text) ∷ []) later)
-  ]
+        | inl own ↦ inl (in_text content limit.FileBytes pair.1 name own)
+        | inr (text, own, later) ↦ inr (rest (before ++ (pair.1, text) ∷ []) later)
+      ]
 
 in_script : (content : Bytes → Option Bytes) (schedule name : Bytes) → ComesTo {A = List Line} content (script_reading kind.Schedule schedule) (Err (Refused (refusal.ReadFault name))) → name ≡ schedule
 in_script content schedule name come =
     elim (comes_to-split content (λ text. lines_or_bad schedule (lines_read kind.Schedule text)) (text_reading limit.ScriptBytes schedule) (Refused (refusal.ReadFault name)) come) [
-  | inl own ↦ in_text content limit.ScriptBytes schedule name own
-  | inr (text, own, later) ↦ absurd (in_lines content schedule name (lines_read kind.Schedule text) later)
-]
+      | inl own ↦ in_text content limit.ScriptBytes schedule name own
+      | inr (text, own, later) ↦ absurd (in_lines content schedule name (lines_read kind.Schedule text) later)
+    ]
 
 -- a fault of reading names the schedule, or a path of its lines
 pub fault_names : (content : Bytes → Option Bytes) (schedule name : Bytes) → ComesTo {A = List Line} content (schedule_reading schedule) (Err (Refused (refusal.ReadFault name))) → IsReadFor content schedule name
 fault_names content schedule name come =
     elim (comes_to-split content with_sources (script_reading kind.Schedule schedule) (Refused (refusal.ReadFault name)) come) [
-  | inl own ↦ inl (in_script content schedule name own)
-  | inr (lines, read, later) ↦ inr (lines, read, from_sources lines later)
-] where
-  from_sources : (lines : List Line) → ComesTo {A = List Line} content (with_sources lines) (Err (Refused (refusal.ReadFault name))) → IsPathIn (pairs_in lines) name
-  from_sources lines later =
-      elim (comes_to-split content (λ sources. within_limits (map (line_with sources) lines)) (sources_reading [] (pairs_in lines)) (Refused (refusal.ReadFault name)) later) [
-    | inl own ↦ in_sources content name (pairs_in lines) [] own
-    | inr (sources, own, last) ↦ absurd (in_limits content name (map (line_with sources) lines) last)
-  ]
+      | inl own ↦ inl (in_script content schedule name own)
+      | inr (lines, read, later) ↦ inr (lines, read, from_sources lines later)
+    ] where
+      from_sources : (lines : List Line) → ComesTo {A = List Line} content (with_sources lines) (Err (Refused (refusal.ReadFault name))) → IsPathIn (pairs_in lines) name
+      from_sources lines later =
+          elim (comes_to-split content (λ sources. within_limits (map (line_with sources) lines)) (sources_reading [] (pairs_in lines)) (Refused (refusal.ReadFault name)) later) [
+            | inl own ↦ in_sources content name (pairs_in lines) [] own
+            | inr (sources, own, last) ↦ absurd (in_limits content name (map (line_with sources) lines) last)
+          ]

@@ -1,11 +1,11 @@
 -- The input of a session, from its script and its sources.
-use Rattle.std.proofs.Common.{◌≡◌, ◌≤◌, ℕ, List, [], map, Option, Some, None, Result, Ok, Err, sym, ap, subst}
+use Rattle.std.proofs.Common.{◌≡◌, ◌≤◌, ℕ, List, [], map, Option, Some, None, Result, Ok, Err, subst}
 use Rattle.pc_terms.specs.Bytes.{Bytes}
 use Rattle.ask_history.specs.Sources.{Sources}
 use Rattle.ask_history.specs.declared.script.Line.{Line}
 use Rattle.script_text.specs.Texts.{line_with}
 use Rattle.script_text.specs.declared.kinds.ScriptKind.TheVariants as kind
-use Rattle.session_input.specs.Reads.{Reading, Gives, Refuses, then_reads, ComesTo}
+use Rattle.session_input.specs.Reads.{ComesTo}
 use Rattle.session_input.specs.Sources.{script_reading, pairs_in, sources_reading}
 use Rattle.session_input.specs.Counts.{passed_by}
 use Rattle.session_input.specs.Input.{unless_passed, within_limits, with_sources, schedule_reading}

@@ -1,6 +1,6 @@
 -- A script names no more pairs than it has bytes.
-use Rattle.std.proofs.Common.{◌≡◌, ◌⊎◌, inl, inr, ℕ, ◌+◌, ◌*◌, ◌<◌, ◌≤◌, Bool, true, false, not, ◌&&◌, cond, ◌==◌, map, List, [], ◌∷◌, ◌++◌, length, codes, replicate, append-nil, Option, Some, None, Result, Ok, Err, refl, sym, ap, ◌∙◌, subst, length-append, arith}
-use Rattle.std.specs.List.{flat_map, list_all, list_any, join_with_byte}
+use Rattle.std.proofs.Common.{◌≡◌, inl, inr, ℕ, ◌+◌, ◌*◌, ◌<◌, ◌≤◌, Bool, true, false, not, ◌&&◌, cond, ◌==◌, map, List, [], ◌∷◌, ◌++◌, length, replicate, append-nil, Option, refl, ap, ◌∙◌, length-append, arith}
+use Rattle.std.specs.List.{list_all, list_any, join_with_byte}
 use Rattle.std.specs.Str.{bytes_eq}
 use Rattle.std.proofs.lemmas.List.{length-map}
 use Rattle.std.proofs.lemmas.List.Folds.{list_all-append}
@@ -10,17 +10,16 @@ use Rattle.ask_history.specs.Engine.{is_file_name}
 use Rattle.script_text.proofs.WordLemmas.{left_of_both, right_of_both}
 use Rattle.script_text.specs.Texts.{entry_with, order_with, line_with}
 use Rattle.session_input.proofs.CountLemmas.{pairs_in-with}
-use Rattle.ask_history.specs.declared.calls.Call.{Call}
 use Rattle.ask_history.specs.declared.calls.Call.TheVariants.{Reload, Remove, TypeAt, MembersAt, ScopeAt, LinkAt, Structure, LoadedTyped}
 use Rattle.ask_history.specs.declared.script.Order.{Order}
 use Rattle.ask_history.specs.declared.script.Order.TheVariants as order
 use Rattle.ask_history.specs.declared.script.Line.{Line}
 use Rattle.script_text.specs.declared.kinds.ScriptKind.{ScriptKind}
 use Rattle.script_text.specs.declared.kinds.Holder.{Holder}
-use Rattle.script_text.specs.Words.{split, onto_first, lines_of, is_passed, is_word, is_name, is_number}
+use Rattle.script_text.specs.Words.{split, onto_first, lines_of, is_word, is_name, is_number}
 use Rattle.script_text.specs.LineText.{pair_words, order_words, number_words, line_text}
 use Rattle.script_text.specs.Standing.{holder_at, may_stand, is_placed, is_meant, is_written, are_pairs, is_next_pair, is_some_list}
-use Rattle.script_text.specs.Grammar.{IsLineAt, AreLines, IsScript}
+use Rattle.script_text.specs.Grammar.{AreLines, IsScript}
 use Rattle.session_input.specs.Sources.{pairs_of, pairs_in, order_names_files, names_files}
 
 -- ---- the words of a line

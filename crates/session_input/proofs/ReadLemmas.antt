@@ -1,6 +1,5 @@
 -- One reading after another.
-use Rattle.std.proofs.Common.{◌≡◌, ◌⊎◌, inl, inr, ℕ, ◌+◌, List, take, take_all, Option, Some, None, Result, Ok, Err, IsOk, is_ok, refl, sym, ap, ◌∙◌, subst}
-use Rattle.std.proofs.lemmas.Bool.{false≢true}
+use Rattle.std.proofs.Common.{◌≡◌, ◌⊎◌, inl, inr, ◌+◌, take, Option, Some, None, Result, Ok, Err, refl, sym, ap, ◌∙◌, subst}
 use Rattle.pc_terms.specs.Bytes.{Bytes}
 use Rattle.pc_outside.specs.Outside.{IsBeginning}
 use Rattle.session_input.specs.Limits.{most_of}
@@ -71,8 +70,8 @@ fault_or_told content (Reads limit name next) a why is (inl (inl same)) = (name,
 fault_or_told content (Reads limit name next) a why is (inl (inr wrong)) = cc
 fault_or_told content (Reads limit name next) a why is (inr (bytes, begins, comes)) =
     by (content name) is begins (λ text same is_told. fault_or_told content (next bytes) a why (ap (λ b. told content (next b)) same ∙ is_told) comes) where
-  by : (c : Option Bytes) → if_told (λ b. told content (next (take (most_of limit + 1) b))) c ≡ Some (Ok a) → IsBeginning c (most_of limit + 1) bytes
-      → ((text : Bytes) → bytes ≡ take (most_of limit + 1) text → told content (next (take (most_of limit + 1) text)) ≡ Some (Ok a) → (name : Bytes) × (why ≡ refusal.ReadFault name))
-      → (name : Bytes) × (why ≡ refusal.ReadFault name)
-  by None wrong begin more = cc
-  by (Some text) is_told begin more = more text begin is_told
+      by : (c : Option Bytes) → if_told (λ b. told content (next (take (most_of limit + 1) b))) c ≡ Some (Ok a) → IsBeginning c (most_of limit + 1) bytes
+          → ((text : Bytes) → bytes ≡ take (most_of limit + 1) text → told content (next (take (most_of limit + 1) text)) ≡ Some (Ok a) → (name : Bytes) × (why ≡ refusal.ReadFault name))
+          → (name : Bytes) × (why ≡ refusal.ReadFault name)
+      by None wrong begin more = cc
+      by (Some text) is_told begin more = more text begin is_told

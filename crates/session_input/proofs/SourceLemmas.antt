@@ -1,12 +1,10 @@
 -- Sources that are read one after another.
-use Rattle.std.proofs.Common.{◌≡◌, ◌⊎◌, inl, inr, ℕ, zero, suc, ◌+◌, ◌<◌, ◌≤◌, Bool, true, false, cond, ◌||◌, ◌==◌, nat_lt, List, [], ◌∷◌, ◌++◌, length, map, take, drop, get_or, drop-cons, add-one, append_assoc, append-nil, Option, Some, None, is_some, unwrap_or, Result, Ok, Err, MatchResult, refl, sym, ap, ◌∙◌, subst, arith}
-use Rattle.std.specs.List.{list_any, flat_map}
+use Rattle.std.proofs.Common.{◌≡◌, inl, inr, ℕ, zero, suc, ◌+◌, ◌<◌, ◌≤◌, Bool, true, false, cond, ◌||◌, ◌==◌, nat_lt, List, [], ◌∷◌, ◌++◌, length, take, drop, get_or, drop-cons, add-one, append_assoc, append-nil, Option, Some, None, is_some, unwrap_or, Ok, Err, refl, sym, ap, ◌∙◌, subst, arith}
 use Rattle.std.specs.Str.{bytes_eq}
 use Rattle.std.proofs.lemmas.List.{take-append-drop}
 use Rattle.std.proofs.lemmas.List.Concat.{flat_map-append}
 use Rattle.script_text.proofs.TextLemmas.{take_one_more}
 use Rattle.ask_history.specs.declared.script.Line.{Line}
-use Rattle.std.proofs.lemmas.Bool.{false≢true}
 use Rattle.std.proofs.lemmas.Bool.Decides.{nat_tests}
 use Rattle.std.specs.Str.Lossy.{utf8_valid_len}
 use Rattle.pc_terms.specs.Bytes.{Bytes, max_source_bytes}
@@ -16,9 +14,8 @@ use Rattle.session_input.specs.Counts.{HaveTexts}
 use Rattle.work_queue.proofs.Usages.{bytes_eq_refl}
 use Rattle.std.proofs.lemmas.List.Folds.{list_any-append}
 use Rattle.session_input.specs.declared.refusal.Refusal.TheVariants as refusal
-use Rattle.session_input.specs.Limits.{most_of}
-use Rattle.session_input.specs.Reads.{Reading, Gives, Refuses, Reads, then_reads, ComesTo}
-use Rattle.session_input.specs.Sources.{accepted, text_reading, pairs_of, pairs_in, sources_reading}
+use Rattle.session_input.specs.Reads.{Gives, Refuses, then_reads, ComesTo}
+use Rattle.session_input.specs.Sources.{text_reading, pairs_of, pairs_in, sources_reading}
 use Rattle.session_input.specs.Leads.{LeadsOn, EndsAt}
 use Rattle.session_input.specs.declared.limits.Limit.TheVariants.{FileBytes}
 use Rattle.session_input.specs.declared.refusal.NoInput.{NoInput}
@@ -146,9 +143,9 @@ loaded-push sources path text other there =
 loaded-new : (sources : Sources) (path text : Bytes) → is_loaded (sources ++ (path, text) ∷ []) path ≡ true
 loaded-new sources path text =
     list_any-append (λ file. bytes_eq path file.0) sources ((path, text) ∷ []) ∙ by (is_loaded sources path) (bytes_eq path path) (bytes_eq_refl path) where
-  by : (b c : Bool) → c ≡ true → (b || (c || false)) ≡ true
-  by true c e = refl
-  by false c e = ap (λ d. d || false) e
+      by : (b c : Bool) → c ≡ true → (b || (c || false)) ≡ true
+      by true c e = refl
+      by false c e = ap (λ d. d || false) e
 
 -- after sources were read, those before are still there, those of the pairs are, and all are small
 record WereRead (before after : Sources) (pairs : List (Bytes × Bytes)) : Type 0 where
@@ -177,27 +174,27 @@ were_read content [] before after small (inl same) =
 were_read content [] before after small (inr wrong) = cc
 were_read content (pair ∷ pairs) before after small comes =
     by (λ more is. were_read content pairs more after is) (is_loaded before pair.1) refl comes where
-  from_bytes : Rest content pairs after → (bytes : Bytes) (long whole : Bool) → nat_lt max_source_bytes (length bytes) ≡ long
-      → ComesTo content (then_reads (λ text. sources_reading (before ++ (pair.1, text) ∷ []) pairs) (cond long (Refuses (refusal.Limit FileBytes (max_source_bytes + 1))) (cond whole (Gives bytes) (Refuses (refusal.NotUtf8 pair.1 (utf8_valid_len bytes)))))) (Ok after)
-      → WereRead before after (pair ∷ pairs)
-  from_bytes rest bytes true whole short (inl wrong) = cc
-  from_bytes rest bytes true whole short (inr wrong) = cc
-  from_bytes rest bytes false true short come =
-      let within : length bytes ≤ max_source_bytes = grind (arith, nat_tests) in
-      read-new before after pair bytes pairs (rest (before ++ (pair.1, bytes) ∷ []) (small-push before pair.1 bytes small within) come)
-  from_bytes rest bytes false false short (inl wrong) = cc
-  from_bytes rest bytes false false short (inr wrong) = cc
+      from_bytes : Rest content pairs after → (bytes : Bytes) (long whole : Bool) → nat_lt max_source_bytes (length bytes) ≡ long
+          → ComesTo content (then_reads (λ text. sources_reading (before ++ (pair.1, text) ∷ []) pairs) (cond long (Refuses (refusal.Limit FileBytes (max_source_bytes + 1))) (cond whole (Gives bytes) (Refuses (refusal.NotUtf8 pair.1 (utf8_valid_len bytes)))))) (Ok after)
+          → WereRead before after (pair ∷ pairs)
+      from_bytes rest bytes true whole short (inl wrong) = cc
+      from_bytes rest bytes true whole short (inr wrong) = cc
+      from_bytes rest bytes false true short come =
+          let within : length bytes ≤ max_source_bytes = grind (arith, nat_tests) in
+          read-new before after pair bytes pairs (rest (before ++ (pair.1, bytes) ∷ []) (small-push before pair.1 bytes small within) come)
+      from_bytes rest bytes false false short (inl wrong) = cc
+      from_bytes rest bytes false false short (inr wrong) = cc
 
-  from_read : Rest content pairs after → ComesTo content (then_reads (λ text. sources_reading (before ++ (pair.1, text) ∷ []) pairs) (text_reading FileBytes pair.1)) (Ok after) → WereRead before after (pair ∷ pairs)
-  from_read rest (inl (inl wrong)) = cc
-  from_read rest (inl (inr wrong)) = cc
-  from_read rest (inr (bytes, begins, come)) =
-      from_bytes rest bytes (nat_lt max_source_bytes (length bytes)) (utf8_valid_len bytes == length bytes) refl come
+      from_read : Rest content pairs after → ComesTo content (then_reads (λ text. sources_reading (before ++ (pair.1, text) ∷ []) pairs) (text_reading FileBytes pair.1)) (Ok after) → WereRead before after (pair ∷ pairs)
+      from_read rest (inl (inl wrong)) = cc
+      from_read rest (inl (inr wrong)) = cc
+      from_read rest (inr (bytes, begins, come)) =
+          from_bytes rest bytes (nat_lt max_source_bytes (length bytes)) (utf8_valid_len bytes == length bytes) refl come
 
-  by : Rest content pairs after → (b : Bool) → is_loaded before pair.1 ≡ b
-      → ComesTo content (cond b (sources_reading before pairs) (then_reads (λ text. sources_reading (before ++ (pair.1, text) ∷ []) pairs) (text_reading FileBytes pair.1))) (Ok after) → WereRead before after (pair ∷ pairs)
-  by rest true known come = read-known before after pair pairs known (rest before small come)
-  by rest false new come = from_read rest come
+      by : Rest content pairs after → (b : Bool) → is_loaded before pair.1 ≡ b
+          → ComesTo content (cond b (sources_reading before pairs) (then_reads (λ text. sources_reading (before ++ (pair.1, text) ∷ []) pairs) (text_reading FileBytes pair.1))) (Ok after) → WereRead before after (pair ∷ pairs)
+      by rest true known come = read-known before after pair pairs known (rest before small come)
+      by rest false new come = from_read rest come
 
 texts_of : (sources : Sources) (pairs : List (Bytes × Bytes)) → AllSmall sources → AllLoaded sources pairs → HaveTexts sources pairs
 texts_of sources [] small loaded = λ k d within. absurd (omega arith)

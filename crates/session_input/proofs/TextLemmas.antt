@@ -1,14 +1,12 @@
 -- One file, from its bytes to its text.
-use Rattle.std.proofs.Common.{◌≡◌, ◌⊎◌, inl, inr, ℕ, zero, suc, ◌+◌, ◌<◌, ◌≤◌, Bool, true, false, cond, ◌==◌, nat_lt, List, [], ◌∷◌, length, take, take_all, Option, Result, Ok, Err, IsUtf8, refl, sym, ap, ◌∙◌, subst, arith}
-use Rattle.std.proofs.lemmas.Bool.{false≢true}
+use Rattle.std.proofs.Common.{◌≡◌, inl, inr, ℕ, zero, suc, ◌+◌, ◌<◌, ◌≤◌, Bool, true, false, cond, ◌==◌, nat_lt, List, [], ◌∷◌, length, take, take_all, Option, Result, Ok, Err, IsUtf8, refl, ap, subst, arith}
 use Rattle.std.proofs.lemmas.Bool.Decides.{nat_tests}
 use Rattle.std.proofs.lemmas.Str.{IsUtf8-from_is_utf8}
 use Rattle.std.specs.Str.{is_utf8}
 use Rattle.std.specs.Str.Lossy.{valid_len_up_to, utf8_valid_len}
 use Rattle.pc_terms.specs.Bytes.{Bytes}
-use Rattle.pc_outside.specs.Outside.{Rose}
 use Rattle.session_input.specs.Limits.{most_of}
-use Rattle.session_input.specs.Reads.{Reading, Gives, Refuses, ComesTo}
+use Rattle.session_input.specs.Reads.{Gives, Refuses, ComesTo}
 use Rattle.session_input.specs.Sources.{accepted, lines_or_bad}
 use Rattle.ask_history.specs.declared.script.Line.{Line}
 use Rattle.session_input.specs.Faults.{CountsFaults, RoseIfFault}
@@ -93,7 +91,6 @@ accepted_counts limit name bytes content result before now last = by (nat_lt (mo
   by true whole = refused_counts (refusal.Limit limit (most_of limit + 1)) content result before now last tt
   by false true = given_counts bytes content result before now last
   by false false = refused_counts (refusal.NotUtf8 name (utf8_valid_len bytes)) content result before now last tt
-
 
 pub lines_counts : (name : Bytes) (read : Result (List Line) ℕ) (content : Bytes → Option Bytes) (result : Result (List Line) NoInput) (before now : ℕ) (last : Option Bytes)
     → ComesTo content (lines_or_bad name read) result → before ≤ now → CountsFaults result before now last

@@ -1,7 +1,6 @@
 -- The input of a session.
 use Rattle.std.specs.Prelude.{ℕ, List, map, [], Option, Some, None}
 use Rattle.pc_terms.specs.Bytes.{Bytes}
-use Rattle.ask_history.specs.Sources.{Sources}
 use Rattle.ask_history.specs.declared.script.Line.{Line}
 use Rattle.script_text.specs.declared.kinds.ScriptKind.TheVariants as kind
 use Rattle.script_text.specs.Texts.{line_with}

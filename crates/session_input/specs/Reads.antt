@@ -1,6 +1,5 @@
 -- A reading: files are read one after another, and what a file says leads to what is read next.
 use Rattle.std.specs.Prelude.{◌≡◌, ◌⊎◌, ◌+◌, take, Option, Some, None, Result, Ok, Err}
-use Rattle.std.specs.Option.{option_map}
 use Rattle.pc_terms.specs.Bytes.{Bytes}
 use Rattle.pc_outside.specs.Outside.{IsBeginning}
 use Rattle.session_input.specs.Limits.{most_of}

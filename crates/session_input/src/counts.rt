@@ -134,8 +134,10 @@ pub fn passed_by(
 {
     let calls = count_calls(lines) as u64;
     let usage = usage_of(alloc, sources, lines)?;
-    Ok(passed(Limit::Calls, calls)
-        .or(passed(Limit::Text, usage.text))
-        .or(passed(Limit::Names, usage.names))
-        .or(passed(Limit::Map, usage.map)))
+    Ok(
+        passed(Limit::Calls, calls)
+            .or(passed(Limit::Text, usage.text))
+            .or(passed(Limit::Names, usage.names))
+            .or(passed(Limit::Map, usage.map)),
+    )
 }

@@ -1,12 +1,9 @@
 -- A run from its words to its line for the user.
-use Rattle.std.proofs.Common.{◌≡◌, ◌⊎◌, inl, inr, ◌≤◌, ℕ, List, [], ◌++◌, length, Option, Some, None, Result, Ok, Err, refl, sym, ap, ◌∙◌, subst}
-use Rattle.std.specs.Option.{option_map}
-use Rattle.std.proofs.Math.Seq.{take-length}
+use Rattle.std.proofs.Common.{◌≡◌, inl, inr, ◌≤◌, ℕ, List, [], Option, Some, None, Ok, refl, sym, subst}
 use Rattle.pc_terms.specs.Bytes.{Bytes}
 use Rattle.pc_terms.specs.declared.problems.Problem.{Problem}
 use Rattle.pc_outside.specs.Outside.{Rose}
 use Rattle.ask_history.specs.Sources.{Sources}
-use Rattle.ask_history.specs.Engine.{EngineState}
 use Rattle.ask_history.specs.declared.calls.Call.{Call}
 use Rattle.ask_history.specs.declared.answers.Answer.{Answer}
 use Rattle.ask_history.specs.declared.events.Event.{Event}
@@ -15,17 +12,16 @@ use Rattle.report_hub.specs.Telling.{ReporterState}
 use Rattle.report_hub.specs.Told.{WasToldMost}
 use Rattle.report_hub.proofs.Reports.{WasToldMost-none}
 use Rattle.session_input.specs.Input.{schedule_reading}
-use Rattle.session_input.specs.Reads.{ComesTo, told}
+use Rattle.session_input.specs.Reads.{ComesTo}
 use Rattle.session_input.specs.Faults.{RoseIfFault}
 use Rattle.session_input.specs.declared.refusal.Refusal.{Refusal}
 use Rattle.session_input.specs.declared.refusal.Refusal.TheVariants as refusal
-use Rattle.session_input.specs.declared.refusal.NoInput.TheVariants.{Refused}
 use Rattle.session_input.proofs.ReadLemmas.{fault_or_told}
 use Rattle.session_input.proofs.FaultLemmas.{fault_names}
 use Rattle.session_run.specs.Words.{mode_of, schedule_of}
-use Rattle.session_run.specs.Printed.{printed, GrewBy, Wrote}
+use Rattle.session_run.specs.Printed.{printed, Wrote}
 use Rattle.session_run.specs.Reading.{IsReadAs, HasInput, RoseAsTold, HasReadFaults, HasWriteFault, NamesReadFile}
-use Rattle.session_run.specs.Session.{IsSessionEnding, SessionSeen, SessionOwes}
+use Rattle.session_run.specs.Session.{IsSessionEnding, SessionOwes}
 use Rattle.session_run.specs.Owed.{Seen, IsJournalOf, Completes, IsRun}
 use Rattle.session_run.specs.Telling.{IsOrNoMemory}
 use Rattle.session_run.specs.declared.modes.Mode.{Mode}
@@ -67,7 +63,7 @@ completes_played content words seen (ending.Refused why) ends writing = absurd e
 pub run_played : (answer_of : Sources → Call → Answer) (problems_of : Sources → Bytes → List Problem) (content : Bytes → Option Bytes) (words : List Bytes) (seen : Seen) (lines : List Line) (ended : Ending) (journal : List Event)
     → mode_of words ≡ Alone → ComesTo content (schedule_reading (schedule_of words)) (Ok lines) → seen.read_faults ≤ seen.read_faults'
     → SessionOwes answer_of problems_of lines
-        (record { put_faults = seen.put_faults; put_faults' = seen.put_faults'; out = seen.out; out' = seen.out'; engine' = seen.engine'; reporter = seen.reporter; reporter' = seen.reporter' }) ended journal
+    (record { put_faults = seen.put_faults; put_faults' = seen.put_faults'; out = seen.out; out' = seen.out'; engine' = seen.engine'; reporter = seen.reporter; reporter' = seen.reporter' }) ended journal
     → IsRun answer_of problems_of content words seen ended journal
 run_played answer_of problems_of content words seen lines ended journal alone read risen owes = record {
   began = Some lines;

@@ -1,12 +1,12 @@
 -- A session from its lines to its output.
-use Rattle.std.proofs.Common.{◌≡◌, ◌⊎◌, inl, inr, ◌<◌, ◌≤◌, ℕ, zero, suc, Bool, true, false, ◌&&◌, ◌++◌, List, [], ◌∷◌, length, map, get_or, All, IsTrue, Option, Some, None, refl, sym, ap, ◌∙◌, subst, append-nil, arith}
+use Rattle.std.proofs.Common.{◌≡◌, inl, inr, ◌<◌, ◌≤◌, ℕ, zero, suc, Bool, true, false, List, [], ◌∷◌, length, map, get_or, Option, Some, None, refl, sym, ap, ◌∙◌, subst, append-nil, arith}
 use Rattle.std.specs.List.{list_all}
 use Rattle.std.proofs.lemmas.List.{length-append}
 use Rattle.pc_terms.specs.Bytes.{Bytes}
 use Rattle.pc_terms.specs.declared.problems.Problem.{Problem}
 use Rattle.ask_history.specs.Sources.{Sources}
-use Rattle.ask_history.specs.Engine.{EngineState, fresh_state, has_file_names}
-use Rattle.ask_history.specs.Journal.{after, replies, findings, out_of_memory}
+use Rattle.ask_history.specs.Engine.{EngineState, fresh_state}
+use Rattle.ask_history.specs.Journal.{findings}
 use Rattle.ask_history.specs.Schedule.{journal_of}
 use Rattle.ask_history.specs.declared.calls.Call.{Call}
 use Rattle.ask_history.specs.declared.answers.Answer.{Answer}

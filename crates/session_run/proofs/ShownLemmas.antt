@@ -1,5 +1,5 @@
 -- What a call asks for is not printed with its answer.
-use Rattle.std.proofs.Common.{◌≡◌, ℕ, ◌+◌, List, [], ◌∷◌, ◌++◌, length, codes, map, refl, sym, ap, ◌∙◌}
+use Rattle.std.proofs.Common.{◌≡◌, ℕ, List, [], ◌∷◌, ◌++◌, length, codes, map, refl, ap, ◌∙◌}
 use Rattle.pc_terms.specs.Bytes.{line_end}
 use Rattle.pc_terms.specs.declared.problems.Problem.{Problem}
 use Rattle.ask_history.specs.Nested.{number_after}
@@ -39,7 +39,7 @@ entries-shown : (journal : List Event) (client number : ℕ) (answers : List Ans
 entries-shown journal client number answers [] = refl
 entries-shown journal client number answers (line ∷ lines) =
     (λ i. entry-shown journal client number answers line.order i
-        ++ entries_text journal client (number-shown number line.order i) (answers-shown journal client number answers line.order i) (map shown_line lines))
+    ++ entries_text journal client (number-shown number line.order i) (answers-shown journal client number answers line.order i) (map shown_line lines))
     ∙ ap (λ rest. entry_text journal client number answers line.order ++ rest)
     (entries-shown journal client (number_after line.order number) (answers_after journal client number answers line.order) lines)
 

@@ -24,7 +24,6 @@ use Rattle.session_run.specs.Printed.{printed, Wrote}
 use Rattle.session_run.specs.Reading.{HasInput, HasReadFaults, HasWriteFault, NamesReadFile}
 use Rattle.session_run.specs.declared.ending.Ending.{Ending}
 use Rattle.session_run.specs.declared.ending.Ending.TheVariants as ending
-use Rattle.session_run.specs.declared.modes.Mode.{Mode}
 use Rattle.session_run.specs.declared.modes.Mode.TheVariants.{Alone}
 
 -- what is handed back of a run

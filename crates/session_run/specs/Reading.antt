@@ -1,14 +1,12 @@
 -- What the files say of a run, and when a fault is told.
-use Rattle.std.specs.Prelude.{◌≡◌, ◌≤◌, ⊤, ℕ, List, Option, Some, None, Result, Ok, Err}
+use Rattle.std.specs.Prelude.{◌≡◌, ◌≤◌, ⊤, ℕ, List, Option, Some, None, Ok, Err}
 use Rattle.pc_terms.specs.Bytes.{Bytes}
 use Rattle.pc_outside.specs.Outside.{Rose}
 use Rattle.ask_history.specs.declared.script.Line.{Line}
 use Rattle.session_input.specs.Faults.{RoseIfFault, IsReadFor}
 use Rattle.session_input.specs.Input.{schedule_reading}
 use Rattle.session_input.specs.Reads.{ComesTo}
-use Rattle.session_input.specs.declared.refusal.Refusal.{Refusal}
 use Rattle.session_input.specs.declared.refusal.Refusal.TheVariants.{ReadFault}
-use Rattle.session_input.specs.declared.refusal.NoInput.{NoInput}
 use Rattle.session_input.specs.declared.refusal.NoInput.TheVariants.{Refused}
 use Rattle.session_run.specs.declared.ending.Ending.{Ending}
 use Rattle.session_run.specs.declared.ending.Ending.TheVariants as ending

@@ -1,5 +1,5 @@
 -- How a run ends: its status, and the line that a user reads.
-use Rattle.std.specs.Prelude.{ℕ, List, [], ◌++◌, codes}
+use Rattle.std.specs.Prelude.{ℕ, [], ◌++◌, codes}
 use Rattle.std.specs.Fmt.{decimal}
 use Rattle.pc_terms.specs.Bytes.{Bytes, line_end}
 use Rattle.session_input.specs.declared.limits.Limit.{Limit}

@@ -6,10 +6,10 @@ ghost use Rattle.ask_history.specs.Engine.{fresh_state};
 ghost use Rattle.report_hub.specs.Hub.{IsSameBox};
 ghost use Rattle.session_run.specs.Owed.{IsRun, RunOwes};
 
+use crate::Report;
 use crate::reading::read_input;
 use crate::session::{Kept, run_lines, unbegun};
 use crate::telling::{status_of, tell};
-use crate::Report;
 use ask_history::Engine;
 use pc_outside::{Files, Sink};
 use report_hub::Reporter;

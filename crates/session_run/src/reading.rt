@@ -50,7 +50,7 @@ pub fn read_input<F: Files>(
 ) -> Result<Row<Line>, Ending>
     ensures input { MatchResult result
         (λ lines. (words_spec.mode_of (map string_bytes words.now) ≡ mode.Alone)
-            × ComesTo (F.content files.old) (schedule_reading (schedule_of (map string_bytes words.now))) (Ok lines))
+        × ComesTo (F.content files.old) (schedule_reading (schedule_of (map string_bytes words.now))) (Ok lines))
         (λ ended. HasInput (words_spec.mode_of (map string_bytes words.now)) (F.content files.old) (schedule_of (map string_bytes words.now)) None ended) }
     ensures can { IfOk result CanPlayAll }
     ensures reading { MatchResult result

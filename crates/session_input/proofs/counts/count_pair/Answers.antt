@@ -1,4 +1,4 @@
-use Rattle.std.proofs.Common.{◌≡◌, ◌≤◌, ℕ, length, cond, ◌∷◌, [], ◌∙◌, ap, sym, subst, refl, unwrap_or, max, Some, arith}
+use Rattle.std.proofs.Common.{◌≤◌, length, cond, ◌∙◌, ap, sym, subst, unwrap_or, max, Some, arith}
 use Rattle.std.specs.Str.{bytes_eq}
 use Rattle.indexmap.specs.IndexMap.{get}
 use Rattle.pc_terms.specs.Bytes.{max_source_bytes}

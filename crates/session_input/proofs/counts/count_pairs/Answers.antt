@@ -1,9 +1,9 @@
-use Rattle.std.proofs.Common.{◌≡◌, ◌+◌, ◌<◌, ◌∷◌, [], ◌++◌, List, length, map, take, drop, ◌∙◌, ap, arith}
+use Rattle.std.proofs.Common.{◌+◌, ◌<◌, ◌∷◌, [], length, map, take, drop, ◌∙◌, ap, arith}
 use Rattle.std.proofs.lemmas.List.{map-append}
 use Rattle.script_text.specs.Texts.{entry_with}
 use Rattle.script_text.proofs.TextLemmas.{take_one_more}
 use Rattle.session_input.proofs.SourceLemmas.{split_at_item}
-use Rattle.session_input.proofs.CountLemmas.{counts-more, room_part, texts-part}
+use Rattle.session_input.proofs.CountLemmas.{counts-more, room_part}
 use Rattle.session_input.proofs.counts.count_pairs.Goals as goal
 
 pub count_pair-requires-clause-room : goal.count_pair-requires-clause-room

@@ -1,6 +1,5 @@
-use Rattle.std.proofs.Common.{◌≡◌, ◌∙◌, sym, map}
+use Rattle.std.proofs.Common.{◌∙◌, sym}
 use Rattle.std.specs.Option.{option_or}
-use Rattle.script_text.specs.Texts.{line_with}
 use Rattle.session_input.specs.Counts.{first_passed}
 use Rattle.session_input.proofs.CountLemmas.{calls-with}
 use Rattle.session_input.proofs.counts.passed_by.Goals as goal

@@ -1,5 +1,4 @@
-use Rattle.std.proofs.Common.{◌≡◌, Some, None, length, unwrap_or, ◌∙◌, sym, ap}
-use Rattle.ask_history.specs.Sources.{text_of}
+use Rattle.std.proofs.Common.{length, unwrap_or, ◌∙◌, ap}
 use Rattle.session_input.proofs.CountLemmas.{text_of-lookup}
 use Rattle.session_input.proofs.counts.text_len.Goals as goal
 

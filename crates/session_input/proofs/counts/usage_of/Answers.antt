@@ -1,10 +1,10 @@
-use Rattle.std.proofs.Common.{◌≡◌, ◌+◌, ◌<◌, ◌≤◌, ◌∷◌, [], ◌++◌, List, length, map, take, drop, take_all, ◌∙◌, ap, sym, subst, rules, refl, arith}
+use Rattle.std.proofs.Common.{◌+◌, ◌<◌, ◌≤◌, [], List, length, map, take, drop, take_all, ◌∙◌, ap, sym, subst, refl, arith}
 use Rattle.std.proofs.lemmas.List.{map-append}
 use Rattle.pc_terms.specs.Bytes.{Bytes}
 use Rattle.script_text.specs.Texts.{entry_with}
 use Rattle.work_queue.specs.Reloads.{usage_of}
 use Rattle.session_input.specs.Sources.{pairs_of, pairs_in}
-use Rattle.session_input.specs.Counts.{CountsMore, HasRoom, HaveTexts}
+use Rattle.session_input.specs.Counts.{HaveTexts}
 use Rattle.session_input.proofs.SourceLemmas.{pairs_in-more, pairs_in-split}
 use Rattle.session_input.proofs.CountLemmas.{counts-more, counted-nothing, room_part, texts-part, pairs_in-with}
 use Rattle.session_input.proofs.counts.usage_of.Goals as goal
@@ -16,8 +16,8 @@ count_pairs-requires-clause-room c =
     let line = c.line-item.result in
     let within : i < length lines = omega arith in
     rw c.pairs_of.ensures (room_part (entry_with c.args.sources.now.entries) (pairs_in (take i lines)) (pairs_of line.order) (pairs_in (drop (i + 1) lines)) (pairs_in lines)
-        (pairs_in-split lines i line within c.line-item.is) c.loop-line.invariant
-        (record { text = omega (arith, c.requires.few); names = omega (arith, c.requires.few); map = omega (arith, c.requires.few) }))
+    (pairs_in-split lines i line within c.line-item.is) c.loop-line.invariant
+    (record { text = omega (arith, c.requires.few); names = omega (arith, c.requires.few); map = omega (arith, c.requires.few) }))
 
 pub count_pairs-requires-clause-texts : goal.count_pairs-requires-clause-texts
 count_pairs-requires-clause-texts c =
@@ -26,7 +26,7 @@ count_pairs-requires-clause-texts c =
     let line = c.line-item.result in
     let within : i < length lines = omega arith in
     rw c.pairs_of.ensures (texts-part c.args.sources.now.entries (pairs_in (take i lines)) (pairs_of line.order) (pairs_in (drop (i + 1) lines))
-        (subst (λ (pairs : List (Bytes × Bytes)). HaveTexts c.args.sources.now.entries pairs) (sym (pairs_in-split lines i line within c.line-item.is)) c.requires.texts))
+    (subst (λ (pairs : List (Bytes × Bytes)). HaveTexts c.args.sources.now.entries pairs) (sym (pairs_in-split lines i line within c.line-item.is)) c.requires.texts))
 
 pub loop-line-preserved : goal.loop-line-preserved
 loop-line-preserved c =

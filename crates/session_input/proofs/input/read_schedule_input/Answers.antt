@@ -1,11 +1,8 @@
-use Rattle.std.proofs.Common.{◌≡◌, List, Option, Ok, map, sym, ap, subst, arith}
-use Rattle.pc_terms.specs.Bytes.{Bytes}
-use Rattle.ask_history.specs.declared.script.Line.{Line}
+use Rattle.std.proofs.Common.{map, arith}
 use Rattle.script_text.specs.Texts.{line_with}
 use Rattle.script_text.specs.declared.kinds.ScriptKind.TheVariants as kind
-use Rattle.session_input.specs.Sources.{script_reading, pairs_in, sources_reading}
+use Rattle.session_input.specs.Sources.{script_reading, pairs_in}
 use Rattle.session_input.specs.Input.{with_sources}
-use Rattle.session_input.specs.Reads.{ComesTo}
 use Rattle.session_input.proofs.ReadLemmas.{comes_to-then_err, same_content}
 use Rattle.session_input.proofs.SourceLemmas.{have_texts}
 use Rattle.session_input.proofs.InputLemmas.{within_counts, sources_end, sources_lead}

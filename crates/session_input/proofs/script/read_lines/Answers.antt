@@ -1,4 +1,3 @@
-use Rattle.std.proofs.Common.{List, arith}
 use Rattle.script_text.specs.Reading.{lines_read}
 use Rattle.script_text.specs.declared.kinds.ScriptKind.TheVariants as kind
 use Rattle.session_input.specs.Sources.{lines_or_bad, text_reading}

@@ -1,7 +1,7 @@
 use Rattle.std.proofs.Common.{◌≡◌, false, ◌∷◌, [], sym, subst}
 use Rattle.ask_history.specs.Sources.{Sources, is_loaded}
 use Rattle.session_input.specs.Leads.{LeadsOn}
-use Rattle.session_input.proofs.SourceLemmas.{leads-known, leads-read, ends-read, ends-no_memory}
+use Rattle.session_input.proofs.SourceLemmas.{leads-read, ends-read}
 use Rattle.session_input.proofs.sources.read_source.Goals as goal
 
 pub returns-in-Ok-keep-clause-comes : goal.returns-in-Ok-keep-clause-comes

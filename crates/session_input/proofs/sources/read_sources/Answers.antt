@@ -1,8 +1,7 @@
-use Rattle.std.proofs.Common.{◌≡◌, ◌+◌, ◌≤◌, ◌<◌, ◌∷◌, [], ◌++◌, List, Option, Ok, Err, length, take, drop, ◌∙◌, sym, ap, subst, append_assoc, append-nil, take_all, refl, inl, arith}
+use Rattle.std.proofs.Common.{◌+◌, ◌≤◌, ◌<◌, Option, length, drop, ◌∙◌, ap, subst, take_all, arith}
 use Rattle.pc_terms.specs.Bytes.{Bytes}
 use Rattle.session_input.specs.Leads.{LeadsOn, EndsAt}
-use Rattle.session_input.specs.Reads.{ComesTo}
-use Rattle.session_input.specs.Sources.{pairs_of, pairs_in, sources_reading}
+use Rattle.session_input.specs.Sources.{pairs_in}
 use Rattle.session_input.proofs.ReadLemmas.{same_content}
 use Rattle.session_input.proofs.SourceLemmas.{leads-more, ends-more, ends-before, pairs_in-more, pairs_in-split, ended, led}
 use Rattle.session_input.proofs.sources.read_sources.Goals as goal

@@ -1,4 +1,4 @@
-use Rattle.std.proofs.Common.{◌≡◌, ◌+◌, ◌<◌, ◌∷◌, [], ◌++◌, List, Option, length, take, drop, ◌∙◌, sym, ap, subst, append_assoc, arith}
+use Rattle.std.proofs.Common.{◌+◌, ◌<◌, ◌∷◌, [], List, Option, length, drop, ◌∙◌, subst, arith}
 use Rattle.pc_terms.specs.Bytes.{Bytes}
 use Rattle.session_input.specs.Leads.{LeadsOn, EndsAt}
 use Rattle.script_text.proofs.TextLemmas.{take_one_more}

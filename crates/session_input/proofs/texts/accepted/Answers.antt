@@ -1,4 +1,4 @@
-use Rattle.std.proofs.Common.{◌≡◌, ◌∙◌, ap, sym, subst, length, IsUtf8, IsOk, Err, is_ok, arith}
+use Rattle.std.proofs.Common.{◌≡◌, ◌∙◌, ap, sym, subst, length, IsUtf8, arith}
 use Rattle.std.proofs.lemmas.Bool.{true≢false}
 use Rattle.std.proofs.lemmas.Str.{IsUtf8-string_bytes, utf8_valid_len-IsUtf8}
 use Rattle.std.specs.Str.{valid_up_to}

@@ -1,4 +1,3 @@
-use Rattle.std.proofs.Common.{arith}
 use Rattle.session_input.proofs.TextLemmas.{accepted_counts}
 use Rattle.session_input.proofs.texts.read_text.Goals as goal
 

@@ -1,4 +1,4 @@
-use Rattle.std.proofs.Common.{◌≡◌, [], refl, ap, sym, subst}
+use Rattle.std.proofs.Common.{refl, ap}
 use Rattle.ask_history.specs.Journal.{findings}
 use Rattle.session_run.proofs.SessionLemmas.{nothing_told}
 use Rattle.session_run.proofs.reported.play_reported.Goals as goal
