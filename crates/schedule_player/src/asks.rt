@@ -1,0 +1,128 @@
+//! Calls that an engine is fed, and asks that it works on.
+
+use crate::frames::Work;
+use crate::session::Session;
+use ask_history::{Answer, Call, Effect, Engine, Fed, Turn};
+use pc_terms::NoMemory;
+use work_queue::Settling;
+
+// What the engine finds for the ask on top.
+fn answer_of<N: Engine>(engine: &mut N) -> Settling {
+    loop {
+        match engine.turn(1) {
+            Turn::Safe => {}
+            Turn::Ready(_, answer) => return Settling::Value(answer),
+            _ => return Settling::NoMemory,
+        }
+    }
+}
+
+// Turns the ask on top until it had so many turns, or is ready. Gives how many it had.
+fn turn_ask<N: Engine>(engine: &mut N, turns: u64, until: u64) -> u64 {
+    let mut turns = turns;
+    while turns < until {
+        match engine.turn(1) {
+            Turn::Safe => turns += 1,
+            _ => return turns,
+        }
+    }
+    turns
+}
+
+fn is_mutation(call: &Call) -> bool {
+    matches!(call, Call::Reload(_) | Call::Remove(_))
+}
+
+impl Session {
+    // Settles the mutation that was fed last, and lets the engine go by what becomes of it.
+    fn settle_staged<N: Engine>(&mut self, engine: &mut N, ticket: u64) {
+        let effect = self.settle(ticket, Settling::Value(Answer::Done));
+        engine.settled(ticket, effect);
+        self.forget_found();
+    }
+
+    /// Plays a call line where the session is not shut down. A mutation is settled at once.
+    pub fn play_accepted<N: Engine>(&mut self, engine: &mut N, call: Call) -> Result<Work, NoMemory> {
+        let mutates = is_mutation(&call);
+        let ticket = self.accept(call)?;
+        match engine.feed(ticket, self.call(ticket)) {
+            Fed::Staged => {
+                self.settle_staged(engine, ticket);
+                Ok(Work::Passed)
+            }
+            Fed::NoMemory if mutates => {
+                self.settle(ticket, Settling::NoMemory);
+                Ok(Work::Passed)
+            }
+            fed => Ok(Work::Ask {
+                ticket,
+                is_fed: fed == Fed::Taken,
+                turns: 0,
+            }),
+        }
+    }
+
+    // What is found for an open ask. One that is cancelled needs no more turns.
+    fn found_for<N: Engine>(&self, engine: &mut N, ticket: u64, is_fed: bool) -> Settling {
+        if !is_fed {
+            Settling::NoMemory
+        } else if self.is_cancelled(ticket) {
+            Settling::Value(Answer::Cancelled)
+        } else {
+            answer_of(engine)
+        }
+    }
+
+    // Settles the innermost ask, which is open, and takes it off.
+    fn settle_ask<N: Engine>(
+        &mut self,
+        engine: &mut N,
+        ticket: u64,
+        is_fed: bool,
+        what: Settling,
+    ) {
+        self.settle(ticket, what);
+        if is_fed {
+            engine.settled(ticket, Effect::Dropped);
+        }
+        self.pop();
+    }
+
+    /// Takes the innermost ask off, when its inner lines are played, and settles it where it is open still.
+    pub fn finish_ask<N: Engine>(&mut self, engine: &mut N, ticket: u64, is_fed: bool) {
+        if self.is_closed() {
+            self.pop();
+        } else {
+            let what = self.found_for(engine, ticket, is_fed);
+            self.settle_ask(engine, ticket, is_fed, what);
+        }
+    }
+
+    /// Takes the innermost ask off, and settles it as out of memory where it is open still.
+    pub fn give_up_ask<N: Engine>(&mut self, engine: &mut N, ticket: u64, is_fed: bool) {
+        if self.is_closed() {
+            self.pop();
+        } else {
+            self.settle_ask(engine, ticket, is_fed, Settling::NoMemory);
+        }
+    }
+
+    /// Turns the innermost ask until it had so many turns, or is ready.
+    pub fn wait_in_ask<N: Engine>(&mut self, engine: &mut N, until: u64) {
+        if let Work::Ask {
+            ticket,
+            is_fed,
+            turns,
+        } = self.top_work()
+        {
+            if is_fed && !self.is_closed() && !self.is_cancelled(ticket) {
+                let turns = turn_ask(engine, turns, until);
+                self.set_work(Work::Ask {
+                    ticket,
+                    is_fed,
+                    turns,
+                });
+            }
+        }
+    }
+}

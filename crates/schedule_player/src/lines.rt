@@ -1,0 +1,138 @@
+//! Lines that are played, one after another.
+
+use crate::frames::{Frame, Work};
+use crate::session::Session;
+use ask_history::{Call, Engine, Line, Order};
+use pc_terms::NoMemory;
+use report_hub::Hub;
+
+impl Session {
+    // Ends the innermost line: its lines are all played.
+    fn finish<N: Engine>(
+        &mut self,
+        engine: &mut N,
+        hub: &mut Hub,
+        work: Work,
+    ) -> Result<(), NoMemory> {
+        match work {
+            Work::Ask { ticket, is_fed, .. } => self.finish_ask(engine, ticket, is_fed),
+            Work::Checks { .. } | Work::Check { .. } => {
+                self.check_all(engine, hub)?;
+                self.pop();
+            }
+            Work::Beside | Work::Passed => {
+                self.pop();
+            }
+        }
+        Ok(())
+    }
+
+    /// Ends the lines under which one of this level cannot stand.
+    pub fn finish_to<N: Engine>(
+        &mut self,
+        engine: &mut N,
+        hub: &mut Hub,
+        level: u32,
+    ) -> Result<(), NoMemory> {
+        while let Some(frame) = self.top() {
+            if frame.level < level {
+                break;
+            }
+            self.finish(engine, hub, frame.work)?;
+        }
+        Ok(())
+    }
+
+    // Lets the innermost line come to where a line under it is to be played.
+    fn arrive<N: Engine>(
+        &mut self,
+        engine: &mut N,
+        hub: &mut Hub,
+        check: u32,
+        turn: u32,
+    ) -> Result<(), NoMemory> {
+        self.reach(engine, hub, check)?;
+        self.wait_in_ask(engine, u64::from(turn));
+        self.wait_in_check(engine, u64::from(turn))
+    }
+
+    // Plays a call line. What stands under it is played where it is refused.
+    fn play_call<N: Engine>(&mut self, engine: &mut N, call: Call) -> Result<Work, NoMemory> {
+        if self.is_closed() {
+            self.refuse()?;
+            Ok(Work::Beside)
+        } else {
+            self.play_accepted(engine, call)
+        }
+    }
+
+    // Files are checked where no ask is open and the session is not shut down.
+    fn play_idle(&self) -> Work {
+        if self.is_closed() || self.is_under_ask() {
+            Work::Beside
+        } else {
+            Work::Checks { next: 0 }
+        }
+    }
+
+    // Plays what a line asks for, and tells what becomes of the lines under it.
+    fn play_order<N: Engine>(&mut self, engine: &mut N, order: Order) -> Result<Work, NoMemory> {
+        match order {
+            Order::Call(call) => self.play_call(engine, call),
+            Order::Cancel(number) => {
+                self.cancel(number);
+                Ok(Work::Passed)
+            }
+            Order::Close => {
+                engine.stop();
+                self.close();
+                Ok(Work::Passed)
+            }
+            Order::Wait(_) => Ok(Work::Passed),
+            Order::Idle => Ok(self.play_idle()),
+        }
+    }
+
+    // A line that is passed over still has its number.
+    fn pass_over(&mut self, order: Order) -> Result<(), NoMemory> {
+        match order {
+            Order::Call(_call) => self.refuse(),
+            _ => Ok(()),
+        }
+    }
+
+    fn play_at<N: Engine>(
+        &mut self,
+        engine: &mut N,
+        level: u32,
+        order: Order,
+    ) -> Result<(), NoMemory> {
+        self.reserve()?;
+        let work = self.play_order(engine, order)?;
+        self.push(level, work);
+        Ok(())
+    }
+
+    /// Plays a line where it stands.
+    pub fn play_line<N: Engine>(
+        &mut self,
+        engine: &mut N,
+        hub: &mut Hub,
+        line: Line,
+    ) -> Result<(), NoMemory> {
+        let Line {
+            level,
+            check,
+            turn,
+            order,
+        } = line;
+        self.finish_to(engine, hub, level)?;
+        match self.top_work() {
+            Work::Passed => self.pass_over(order),
+            _ => {
+                self.arrive(engine, hub, check, turn)?;
+                self.play_at(engine, level, order)
+            }
+        }
+    }
+}

@@ -1,0 +1,68 @@
+ghost use Rattle.std.specs.Prelude.{◌≡◌};
+ghost use Rattle.ask_history.specs.Engine.{fresh_state};
+ghost use Rattle.ask_history.specs.Journal.{findings};
+ghost use Rattle.report_hub.specs.Hub.{reporters_of, of_box, OfEach, IsToldMost};
+ghost use Rattle.schedule_player.specs.Owed.{CanPlayAll, PlayOwes};
+
+use crate::Played;
+use crate::frames::Work;
+use crate::session::Session;
+use ask_history::{Engine, Journal, Line};
+use pc_terms::{NoMemory, Row};
+use report_hub::Hub;
+use std::alloc::Global;
+
+impl Session {
+    // Plays all lines.
+    fn play_lines<N: Engine>(
+        &mut self,
+        engine: &mut N,
+        hub: &mut Hub,
+        lines: Row<Line>,
+    ) -> Result<(), NoMemory> {
+        for line in lines.into_vec() {
+            self.play_line(engine, hub, line)?;
+        }
+        self.finish_to(engine, hub, 0)
+    }
+
+    // Settles the open asks as out of memory, the innermost first.
+    fn give_up<N: Engine>(&mut self, engine: &mut N) {
+        while let Some(frame) = self.top() {
+            match frame.work {
+                Work::Ask { ticket, is_fed, .. } => self.give_up_ask(engine, ticket, is_fed),
+                _ => self.pop(),
+            }
+        }
+    }
+}
+
+// Nothing was played.
+fn nothing(alloc: Global) -> Played {
+    Played {
+        journal: Journal {
+            events: Row::new(alloc),
+        },
+        answers: Row::new(alloc),
+        problems: Row::new(alloc),
+        whole: false,
+    }
+}
+
+/// Plays the lines of a schedule on a fresh engine, in their order, each at its place under the lines around it, and tells the
+/// reporters of the hub what the checks find. A reload has its texts in place of paths. Out of memory the run is cut short: what
+/// is open is settled so, the innermost first.
+pub fn play<N: Engine>(alloc: Global, engine: &mut N, hub: &mut Hub, lines: Row<Line>) -> Played
+    requires fresh { N.state engine.old ≡ fresh_state }
+    requires can { CanPlayAll lines }
+    ensures owed { PlayOwes N.answer_of N.problems_of lines result (N.state engine.new) }
+    ensures told { OfEach (IsToldMost (of_box told) (of_box faults) (findings N.problems_of result.journal.events)) (reporters_of hub.old) (reporters_of hub.new) }
+{
+    let mut session = match Session::new(alloc) {
+        Ok(session) => session,
+        Err(NoMemory {}) => return nothing(alloc),
+    };
+    let whole = session.play_lines(engine, hub, lines).is_ok();
+    session.give_up(engine);
+    session.into_played(whole)
+}
