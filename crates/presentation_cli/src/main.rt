@@ -3,9 +3,7 @@
 
 use compiler_loop::Core;
 use pc_outside::{Sink, StdFiles, WriterSink};
-use pc_terms::NoMemory;
 use session_run::{SinkReporter, run_alone};
-
 use std::process::ExitCode;
 use std::rt::Env;
 use std::{env, io};

@@ -75,3 +75,35 @@ fault_or_told content (Reads limit name next) a why is (inr (bytes, begins, come
           → (name : Bytes) × (why ≡ refusal.ReadFault name)
       by None wrong begin more = cc
       by (Some text) is_told begin more = more text begin is_told
+
+-- where the contents tell an answer, it is the one that is given
+pub given_is_told : {A : Type 0} (content : Bytes → Option Bytes) (reading : Reading A) (a : A) (t : Result A Refusal) → told content reading ≡ Some t → ComesTo content reading (Ok a) → t ≡ Ok a
+given_is_told content (Gives b) a t is (inl same) = cc
+given_is_told content (Gives b) a t is (inr wrong) = cc
+given_is_told content (Refuses why) a t is (inl wrong) = cc
+given_is_told content (Refuses why) a t is (inr wrong) = cc
+given_is_told content (Reads limit name next) a t is (inl (inl wrong)) = cc
+given_is_told content (Reads limit name next) a t is (inl (inr wrong)) = cc
+given_is_told content (Reads limit name next) a t is (inr (bytes, begins, comes)) =
+    by (content name) is begins (λ text same is_told. given_is_told content (next bytes) a t (ap (λ b. told content (next b)) same ∙ is_told) comes) where
+  by : (c : Option Bytes) → if_told (λ b. told content (next (take (most_of limit + 1) b))) c ≡ Some t → IsBeginning c (most_of limit + 1) bytes
+      → ((text : Bytes) → bytes ≡ take (most_of limit + 1) text → told content (next (take (most_of limit + 1) text)) ≡ Some t → t ≡ Ok a)
+      → t ≡ Ok a
+  by None wrong begin more = cc
+  by (Some text) is_told begin more = more text begin is_told
+
+-- where the contents tell a refusal, it is the one that is told, or a fault of reading is
+pub refused_is_told : {A : Type 0} (content : Bytes → Option Bytes) (reading : Reading A) (why other : Refusal) → told content reading ≡ Some (Err other) → ComesTo {A = A} content reading (Err (Refused why))
+    → (why ≡ other) ⊎ ((name : Bytes) × (why ≡ refusal.ReadFault name))
+refused_is_told content (Gives b) why other is comes = cc
+refused_is_told content (Refuses w) why other is (inl same) = inl (let e : why ≡ w = cc in let f : w ≡ other = cc in e ∙ f)
+refused_is_told content (Refuses w) why other is (inr wrong) = cc
+refused_is_told content (Reads limit name next) why other is (inl (inl same)) = inr (name, cc)
+refused_is_told content (Reads limit name next) why other is (inl (inr wrong)) = cc
+refused_is_told content (Reads limit name next) why other is (inr (bytes, begins, comes)) =
+    by (content name) is begins (λ text same is_told. refused_is_told content (next bytes) why other (ap (λ b. told content (next b)) same ∙ is_told) comes) where
+  by : (c : Option Bytes) → if_told (λ b. told content (next (take (most_of limit + 1) b))) c ≡ Some (Err other) → IsBeginning c (most_of limit + 1) bytes
+      → ((text : Bytes) → bytes ≡ take (most_of limit + 1) text → told content (next (take (most_of limit + 1) text)) ≡ Some (Err other) → (why ≡ other) ⊎ ((n : Bytes) × (why ≡ refusal.ReadFault n)))
+      → (why ≡ other) ⊎ ((n : Bytes) × (why ≡ refusal.ReadFault n))
+  by None wrong begin more = cc
+  by (Some text) is_told begin more = more text begin is_told

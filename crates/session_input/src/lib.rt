@@ -3,6 +3,7 @@
 
 mod counts;
 mod input;
+mod laws;
 mod limits;
 mod refusal;
 mod script;
@@ -10,5 +11,6 @@ mod sources;
 mod texts;
 
 pub use input::read_schedule_input;
+pub use laws::law_told_readings;
 pub use limits::Limit;
 pub use refusal::{NoInput, Refusal};

@@ -13,11 +13,10 @@ mod journal;
 mod names;
 mod outcomes;
 
-pub use journal::print_checked;
-
 use ask_history::{Answer, Journal, Script};
 use entries::push_clients;
 use fields::push_count;
+pub use journal::print_checked;
 use journal::push_events;
 use outcomes::Outcomes;
 use pc_terms::{NoMemory, Problem, Row, Text};
