@@ -1,1 +1,5 @@
 pub mod Owed
+pub mod SessionState
+pub mod Around
+pub mod InStep
+pub mod Steps

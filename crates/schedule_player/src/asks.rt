@@ -1,35 +1,70 @@
 //! Calls that an engine is fed, and asks that it works on.
 
+ghost use Rattle.std.specs.Prelude.{◌≡◌, ℕ, ◌<◌, ◌++◌, ◌∷◌, [], length, Some, None, Ok, Err, true, false, IfSome, IfNone, OnOk, OnErr};
+ghost use Rattle.ask_history.specs.Sources.{is_mutation};
+ghost use Rattle.ask_history.specs.Engine.{IsOnTop};
+ghost use Rattle.ask_history.specs.declared.calls.Call.{Call};
+ghost use Rattle.ask_history.specs.declared.events.Event.TheVariants.{Settle};
+ghost use Rattle.ask_history.specs.declared.script.Order.TheVariants as order;
+ghost use Rattle.work_queue.specs.Queue.{mark_of};
+ghost use Rattle.schedule_player.specs.Owed.{CanPost};
+ghost use Rattle.schedule_player.specs.Around.{around, top_work, with_work};
+ghost use Rattle.schedule_player.specs.InStep.{InStep, ChecksInStep};
+ghost use Rattle.schedule_player.specs.Steps.{Finds, IsRight, top_ask, Ends, OnlySettles, PlaysOrder, Waits};
+ghost use Rattle.schedule_player.specs.declared.frames.Work.TheVariants.{Passed, Ask};
+
 use crate::frames::Work;
 use crate::session::Session;
 use ask_history::{Answer, Call, Effect, Engine, Fed, Turn};
 use pc_terms::NoMemory;
 use work_queue::Settling;
 
+// One turn of the ask on top. Tells what was found for it, where it does not go on.
+fn turn_on_top<N: Engine>(engine: &mut N) -> Option<Settling>
+    requires { (N.state engine.old).staged ≡ None }
+    ensures same { (ask : ℕ × Call) → IsOnTop (N.state engine.old).asks ask → N.state engine.new ≡ N.state engine.old }
+    ensures finds { (ask : ℕ × Call) → IsOnTop (N.state engine.old).asks ask → IfSome result (λ what. Finds what (N.answer_of (N.state engine.old).sources ask.1)) }
+    ensures staged { (N.state engine.new).staged ≡ None }
+    ensures lowers { IfNone result (N.left engine.new < N.left engine.old) }
+{
+    match engine.turn(1) {
+        Turn::Safe => None,
+        Turn::Ready(_, answer) => Some(Settling::Value(answer)),
+        _ => Some(Settling::NoMemory),
+    }
+}
+
 // What the engine finds for the ask on top.
-fn answer_of<N: Engine>(engine: &mut N) -> Settling {
+fn answer_of<N: Engine>(engine: &mut N) -> Settling
+    requires { (N.state engine.old).staged ≡ None }
+    ensures same { (ask : ℕ × Call) → IsOnTop (N.state engine.old).asks ask → N.state engine.new ≡ N.state engine.old }
+    ensures finds { (ask : ℕ × Call) → IsOnTop (N.state engine.old).asks ask → Finds result (N.answer_of (N.state engine.old).sources ask.1) }
+{
     loop {
-        match engine.turn(1) {
-            Turn::Safe => {}
-            Turn::Ready(_, answer) => return Settling::Value(answer),
-            _ => return Settling::NoMemory,
+        if let Some(found) = turn_on_top(engine) {
+            return found;
         }
     }
 }
 
 // Turns the ask on top until it had so many turns, or is ready. Gives how many it had.
-fn turn_ask<N: Engine>(engine: &mut N, turns: u64, until: u64) -> u64 {
+fn turn_ask<N: Engine>(engine: &mut N, turns: u64, until: u64) -> u64
+    requires { (N.state engine.old).staged ≡ None }
+    ensures { (ask : ℕ × Call) → IsOnTop (N.state engine.old).asks ask → N.state engine.new ≡ N.state engine.old }
+{
     let mut turns = turns;
     while turns < until {
-        match engine.turn(1) {
-            Turn::Safe => turns += 1,
-            _ => return turns,
+        if turn_on_top(engine).is_some() {
+            break;
         }
+        turns += 1;
     }
     turns
 }
 
-fn is_mutation(call: &Call) -> bool {
+fn is_mutation(call: &Call) -> bool
+    ensures { result ≡ is_mutation call.now }
+{
     matches!(call, Call::Reload(_) | Call::Remove(_))
 }
 
@@ -41,25 +76,22 @@ impl Session {
         self.forget_found();
     }
 
-    /// Plays a call line where the session is not shut down. A mutation is settled at once.
-    pub fn play_accepted<N: Engine>(&mut self, engine: &mut N, call: Call) -> Result<Work, NoMemory> {
+    /// Plays a call line where the session is not shut down. A mutation is settled at once; an ask is the innermost line now.
+    pub fn play_accepted<N: Engine>(&mut self, engine: &mut N, call: Call) -> Result<(), NoMemory> {
         let mutates = is_mutation(&call);
         let ticket = self.accept(call)?;
         match engine.feed(ticket, self.call(ticket)) {
-            Fed::Staged => {
-                self.settle_staged(engine, ticket);
-                Ok(Work::Passed)
-            }
+            Fed::Staged => self.settle_staged(engine, ticket),
             Fed::NoMemory if mutates => {
                 self.settle(ticket, Settling::NoMemory);
-                Ok(Work::Passed)
             }
-            fed => Ok(Work::Ask {
+            fed => self.set_work(Work::Ask {
                 ticket,
                 is_fed: fed == Fed::Taken,
                 turns: 0,
             }),
         }
+        Ok(())
     }
 
     // What is found for an open ask. One that is cancelled needs no more turns.

@@ -52,8 +52,13 @@ impl Session {
         if self.is_closed() || !self.finds(engine)? {
             return Ok(false);
         }
-        self.note(hub)?;
-        Ok(true)
+        match self.take_found() {
+            None => Ok(false),
+            Some(found) => {
+                self.note(found, hub)?;
+                Ok(true)
+            }
+        }
     }
 
     /// Checks until no file is due.

@@ -56,41 +56,41 @@ impl Session {
         self.wait_in_check(engine, u64::from(turn))
     }
 
-    // Plays a call line. What stands under it is played where it is refused.
-    fn play_call<N: Engine>(&mut self, engine: &mut N, call: Call) -> Result<Work, NoMemory> {
+    // Plays a call line. What stands under it is played in its place where it is refused.
+    fn play_call<N: Engine>(&mut self, engine: &mut N, call: Call) -> Result<(), NoMemory> {
         if self.is_closed() {
             self.refuse()?;
-            Ok(Work::Beside)
+            self.set_work(Work::Beside);
+            Ok(())
         } else {
             self.play_accepted(engine, call)
         }
     }
 
     // Files are checked where no ask is open and the session is not shut down.
-    fn play_idle(&self) -> Work {
+    fn play_idle(&mut self) {
         if self.is_closed() || self.is_under_ask() {
-            Work::Beside
+            self.set_work(Work::Beside);
         } else {
-            Work::Checks { next: 0 }
+            self.set_work(Work::Checks { next: 0 });
         }
     }
 
-    // Plays what a line asks for, and tells what becomes of the lines under it.
-    fn play_order<N: Engine>(&mut self, engine: &mut N, order: Order) -> Result<Work, NoMemory> {
+    fn play_close<N: Engine>(&mut self, engine: &mut N) {
+        engine.stop();
+        self.close();
+    }
+
+    // Plays what the innermost line asks for.
+    fn play_order<N: Engine>(&mut self, engine: &mut N, order: Order) -> Result<(), NoMemory> {
         match order {
-            Order::Call(call) => self.play_call(engine, call),
-            Order::Cancel(number) => {
-                self.cancel(number);
-                Ok(Work::Passed)
-            }
-            Order::Close => {
-                engine.stop();
-                self.close();
-                Ok(Work::Passed)
-            }
-            Order::Wait(_) => Ok(Work::Passed),
-            Order::Idle => Ok(self.play_idle()),
+            Order::Call(call) => self.play_call(engine, call)?,
+            Order::Cancel(number) => self.cancel(number),
+            Order::Close => self.play_close(engine),
+            Order::Wait(_) => {}
+            Order::Idle => self.play_idle(),
         }
+        Ok(())
     }
 
     // A line that is passed over still has its number.
@@ -101,16 +101,19 @@ impl Session {
         }
     }
 
+    // Plays a line to whose place the innermost one has come.
     fn play_at<N: Engine>(
         &mut self,
         engine: &mut N,
         level: u32,
         order: Order,
     ) -> Result<(), NoMemory> {
-        self.reserve()?;
-        let work = self.play_order(engine, order)?;
-        self.push(level, work);
-        Ok(())
+        self.push(level)?;
+        let played = self.play_order(engine, order);
+        if played.is_err() {
+            self.pop();
+        }
+        played
     }
 
     /// Plays a line where it stands.
