@@ -4,4 +4,8 @@ pub mod Pushing
 pub mod Noted
 pub mod Tops
 pub mod Served
+pub mod Same
 pub mod Settles
+pub mod Reworks
+pub mod Accepts
+pub mod Ending

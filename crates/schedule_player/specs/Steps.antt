@@ -15,7 +15,7 @@ use Rattle.work_queue.specs.Queue.{mark_of, value_of}
 use Rattle.work_queue.specs.declared.limits.Settling.{Settling}
 use Rattle.work_queue.specs.declared.limits.Settling.TheVariants as settling
 use Rattle.schedule_player.specs.Owed.{is_settle}
-use Rattle.schedule_player.specs.Around.{HasMarks, LeadsTo, ending, with_work, top_work}
+use Rattle.schedule_player.specs.Around.{HasMarks, LeadsTo, ending, onto, with_work, top_work}
 use Rattle.schedule_player.specs.SessionState.{SessionState}
 use Rattle.schedule_player.specs.declared.frames.Work.{Work}
 use Rattle.schedule_player.specs.declared.frames.Work.TheVariants.{Ask, Checks, Check}
@@ -63,6 +63,12 @@ pub record OnlySettles (old new : List Event) : Type 0 where
 
 -- ---- lines
 
+-- The innermost line is one of which nothing was played.
+pub record IsPlaced (frames : List Frame) : Type 0 where
+  pub level : ℕ
+  pub around : List Frame
+  pub is : frames ≡ onto level around
+
 -- An order was played: what it does to the journal is done, but for what becomes of the lines under it.
 pub record PlaysOrder (order : Order) (old new : SessionState) : Type 0 where
   pub work : Work
@@ -87,6 +93,19 @@ HasCome _ check = ⊤
 pub record Waits (level check : ℕ) (old new : SessionState) : Type 0 where
   pub leads : (lines : List Line) (number : ℕ) (line : Line) (inner rest : Nested) → line.level ≡ level → line.check ≡ check
       → LeadsTo lines old.frames (Then number line inner rest) old.journal → LeadsTo lines new.frames (Then number line inner rest) new.journal
+
+-- Only the turns of the innermost line may be more.
+abbrev pub IsSameLine : Work → Work → Type 0
+IsSameLine (Ask ticket is_fed turns) work = (now : ℕ) × (work ≡ Ask ticket is_fed now)
+IsSameLine (Check number turns) work = (now : ℕ) × (work ≡ Check number now)
+IsSameLine old work = work ≡ old
+
+pub record IsSameButTurns (old new : SessionState) : Type 0 where
+  pub work : Work
+  pub line : IsSameLine (top_work old.frames) work
+  pub frames : new.frames ≡ with_work work old.frames
+  pub journal : new.journal ≡ old.journal
+  pub tickets : new.tickets ≡ old.tickets
 
 -- ---- checks
 
