@@ -205,7 +205,7 @@ module _ (answer_of : Sources → Call → Answer) (problems_of : Sources → By
     forestalled_is : forestalled (session.journal ++ event ∷ []) ticket m ≡ by_mark m
     forestalled_is = (λ j. if opened_shut j then Some answer.Closed else (if not_cancelled j then Some answer.Cancelled else by_mark m))
 
-    effect_is : taking_effect (session.journal ++ event ∷ []) ticket m ≡ (if is_none (by_mark m) then Some call else None)
+    pub effect_is : taking_effect (session.journal ++ event ∷ []) ticket m ≡ (if is_none (by_mark m) then Some call else None)
     effect_is = (λ j. if is_none (forestalled_is j) then mutation_only (called_now j) else None)
         ∙ ap (λ b. if is_none (by_mark m) then (if b then Some call else None) else None) mutates
 
@@ -254,10 +254,10 @@ module _ (answer_of : Sources → Call → Answer) (problems_of : Sources → By
             ∙ ap (λ k. (session.journal ++ event ∷ []) ++ Settle ticket k ∷ []) (mark_last without (session.journal ++ event ∷ []) ticket m h);
       }
 
-    after_is : after journal ≡ changed (after session.journal) (if is_none (by_mark m) then Some call else None)
+    pub after_is : after journal ≡ changed (after session.journal) (if is_none (by_mark m) then Some call else None)
     after_is = after-push (session.journal ++ event ∷ []) (Settle ticket m) ∙ (λ j. changed (same_after j) (effect_is j))
 
-    checked_is : checked journal ≡ (if is_some (if is_none (by_mark m) then Some call else None) then [] else checked session.journal)
+    pub checked_is : checked journal ≡ (if is_some (if is_none (by_mark m) then Some call else None) then [] else checked session.journal)
     checked_is = checked-push (session.journal ++ event ∷ []) (Settle ticket m) ∙ (λ j. if is_some (effect_is j) then [] else same_checked j)
 
   -- the answer of a mutation is that of its mark, whatever the engine's function is

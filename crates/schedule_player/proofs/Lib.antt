@@ -8,4 +8,5 @@ pub mod Same
 pub mod Settles
 pub mod Reworks
 pub mod Accepts
+pub mod Openings
 pub mod Ending

@@ -115,11 +115,27 @@ Says step.GoesOn names found = (some_of names ≡ true) × (found ≡ None)
 Says step.Found names found = (some_of names ≡ true) × (is_some found ≡ true)
 Says step.NothingDue names found = (names ≡ []) × (found ≡ None)
 
+abbrev pub GoesOnLess : Step → ℕ → ℕ → Type 0
+GoesOnLess step.GoesOn before now = now < before
+GoesOnLess _ before now = ⊤
+
 -- Only what is found of a check may be new.
 pub record IsSameButFound (old new : SessionState) : Type 0 where
   pub same : new ≡ record old { found = new.found }
+
+-- Only checks may be new.
+pub record IsSameButChecks (old new : SessionState) : Type 0 where
+  pub frames : new.frames ≡ old.frames
+  pub tickets : new.tickets ≡ old.tickets
+  pub closed : new.closed ≡ old.closed
 
 -- The checks that are left come to the same.
 pub record ChecksOn (old new : List Event) : Type 0 where
   pub marks : (without : List ℕ) → HasMarks without new → HasMarks without old
   pub same : checks_alone (length (due old)) old ≡ checks_alone (length (due new)) new
+
+-- lines under it are played in checks
+abbrev pub IsOfChecks : Work → Type 0
+IsOfChecks (Checks next) = ⊤
+IsOfChecks (Check number turns) = ⊤
+IsOfChecks _ = ⊥

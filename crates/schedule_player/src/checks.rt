@@ -1,5 +1,16 @@
 //! Checks of files, while no ask is open.
 
+ghost use Rattle.std.specs.Prelude.{◌≡◌, ℕ, ◌<◌, ◌++◌, ◌∷◌, [], length, Some, None, Ok, Err, true, false, is_some, IfOk, OnOk, OnErr};
+ghost use Rattle.ask_history.specs.Sources.{some_of};
+ghost use Rattle.ask_history.specs.Checks.{due, check_begins, check_done};
+ghost use Rattle.ask_history.specs.Journal.{findings};
+ghost use Rattle.report_hub.specs.Hub.{reporters_of, of_box, OfEach, IsToldMost};
+ghost use Rattle.schedule_player.specs.Around.{asks_of, top_work, with_work};
+ghost use Rattle.schedule_player.specs.InStep.{InStep, ChecksInStep};
+ghost use Rattle.schedule_player.specs.Steps.{Says, GoesOnLess, IsSameButFound, IsSameButChecks, ChecksOn, IsSameButTurns, IsOfChecks, Waits, HasCome};
+ghost use Rattle.schedule_player.specs.declared.frames.Work.TheVariants.{Check};
+ghost use Rattle.schedule_player.specs.declared.checks.Step.TheVariants as step;
+
 use crate::frames::Work;
 use crate::session::{Found, Session};
 use ask_history::{Engine, Turn};
@@ -8,7 +19,7 @@ use report_hub::Hub;
 
 /// What a turn of a check came to.
 #[derive(Clone, Copy, Debug, PartialEq, Eq)]
-enum Step {
+pub enum Step {
     GoesOn,
     Found,
     NothingDue,
@@ -16,7 +27,17 @@ enum Step {
 
 impl Session {
     // One turn of the engine. What a check finds is kept.
-    fn turn_check<N: Engine>(&mut self, engine: &mut N) -> Result<Step, NoMemory> {
+    fn turn_check<N: Engine>(&mut self, engine: &mut N) -> Result<Step, NoMemory>
+        requires in_step { InStep N.answer_of N.problems_of self.old (N.state engine.old) }
+        requires checks { ChecksInStep N.problems_of self.old (N.state engine.old) }
+        requires live { self.old.closed ≡ false }
+        requires alone { asks_of self.old.frames ≡ [] }
+        ensures in_step { InStep N.answer_of N.problems_of self.new (N.state engine.new) }
+        ensures checks { OnOk result (ChecksInStep N.problems_of self.new (N.state engine.new)) }
+        ensures same { IsSameButFound self.old self.new }
+        ensures says { IfOk result (λ step. Says step (due self.old.journal) self.new.found) }
+        ensures lowers { IfOk result (λ step. GoesOnLess step (N.left engine.old) (N.left engine.new)) }
+    {
         if self.has_found() {
             return Ok(Step::Found);
         }
@@ -32,12 +53,36 @@ impl Session {
     }
 
     // Whether a check begins.
-    fn begins<N: Engine>(&mut self, engine: &mut N) -> Result<bool, NoMemory> {
-        Ok(!self.is_closed() && self.turn_check(engine)? != Step::NothingDue)
+    fn begins<N: Engine>(&mut self, engine: &mut N) -> Result<bool, NoMemory>
+        requires in_step { InStep N.answer_of N.problems_of self.old (N.state engine.old) }
+        requires checks { ChecksInStep N.problems_of self.old (N.state engine.old) }
+        requires alone { asks_of self.old.frames ≡ [] }
+        ensures in_step { InStep N.answer_of N.problems_of self.new (N.state engine.new) }
+        ensures checks { OnOk result (ChecksInStep N.problems_of self.new (N.state engine.new)) }
+        ensures same { IsSameButFound self.old self.new }
+        ensures begins { IfOk result (λ begins. begins ≡ check_begins self.old.journal) }
+    {
+        if self.is_closed() {
+            return Ok(false);
+        }
+        match self.turn_check(engine)? {
+            Step::NothingDue => Ok(false),
+            _ => Ok(true),
+        }
     }
 
     // Turns the engine until a check has found problems. Tells whether one was due.
-    fn finds<N: Engine>(&mut self, engine: &mut N) -> Result<bool, NoMemory> {
+    fn finds<N: Engine>(&mut self, engine: &mut N) -> Result<bool, NoMemory>
+        requires in_step { InStep N.answer_of N.problems_of self.old (N.state engine.old) }
+        requires checks { ChecksInStep N.problems_of self.old (N.state engine.old) }
+        requires live { self.old.closed ≡ false }
+        requires alone { asks_of self.old.frames ≡ [] }
+        ensures in_step { InStep N.answer_of N.problems_of self.new (N.state engine.new) }
+        ensures checks { OnOk result (ChecksInStep N.problems_of self.new (N.state engine.new)) }
+        ensures same { IsSameButFound self.old self.new }
+        ensures due { IfOk result (λ finds. finds ≡ some_of (due self.old.journal)) }
+        ensures found { IfOk result (λ finds. is_some self.new.found ≡ finds) }
+    {
         loop {
             match self.turn_check(engine)? {
                 Step::GoesOn => {}
@@ -48,7 +93,18 @@ impl Session {
     }
 
     // Checks the first file that is due, where the session is not shut down. Tells whether one was.
-    fn check<N: Engine>(&mut self, engine: &mut N, hub: &mut Hub) -> Result<bool, NoMemory> {
+    fn check<N: Engine>(&mut self, engine: &mut N, hub: &mut Hub) -> Result<bool, NoMemory>
+        requires in_step { InStep N.answer_of N.problems_of self.old (N.state engine.old) }
+        requires checks { ChecksInStep N.problems_of self.old (N.state engine.old) }
+        requires alone { asks_of self.old.frames ≡ [] }
+        ensures in_step { InStep N.answer_of N.problems_of self.new (N.state engine.new) }
+        ensures checks { OnOk result (ChecksInStep N.problems_of self.new (N.state engine.new)) }
+        ensures same { IsSameButChecks self.old self.new }
+        ensures done { OnOk result (self.new.journal ≡ check_done self.old.journal) }
+        ensures begun { IfOk result (λ begun. begun ≡ check_begins self.old.journal) }
+        ensures err { OnErr result (self.new.journal ≡ self.old.journal) }
+        ensures told { (start : _) → OfEach (IsToldMost (of_box told) (of_box faults) (findings N.problems_of self.old.journal)) start (reporters_of hub.old) → OfEach (IsToldMost (of_box told) (of_box faults) (findings N.problems_of self.new.journal)) start (reporters_of hub.new) }
+    {
         if self.is_closed() || !self.finds(engine)? {
             return Ok(false);
         }
@@ -62,7 +118,17 @@ impl Session {
     }
 
     /// Checks until no file is due.
-    pub fn check_all<N: Engine>(&mut self, engine: &mut N, hub: &mut Hub) -> Result<(), NoMemory> {
+    pub fn check_all<N: Engine>(&mut self, engine: &mut N, hub: &mut Hub) -> Result<(), NoMemory>
+        requires in_step { InStep N.answer_of N.problems_of self.old (N.state engine.old) }
+        requires checks { ChecksInStep N.problems_of self.old (N.state engine.old) }
+        requires alone { asks_of self.old.frames ≡ [] }
+        ensures in_step { InStep N.answer_of N.problems_of self.new (N.state engine.new) }
+        ensures checks { OnOk result (ChecksInStep N.problems_of self.new (N.state engine.new)) }
+        ensures same { IsSameButChecks self.old self.new }
+        ensures goes_on { ChecksOn self.old.journal self.new.journal }
+        ensures over { OnOk result (check_begins self.new.journal ≡ false) }
+        ensures told { (start : _) → OfEach (IsToldMost (of_box told) (of_box faults) (findings N.problems_of self.old.journal)) start (reporters_of hub.old) → OfEach (IsToldMost (of_box told) (of_box faults) (findings N.problems_of self.new.journal)) start (reporters_of hub.new) }
+    {
         while self.check(engine, hub)? {}
         Ok(())
     }
