@@ -8,5 +8,8 @@ pub mod Same
 pub mod Settles
 pub mod Reworks
 pub mod Accepts
+pub mod Checking
+pub mod Tellings
+pub mod Resumes
 pub mod Openings
 pub mod Ending

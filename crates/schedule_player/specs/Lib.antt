@@ -3,3 +3,4 @@ pub mod SessionState
 pub mod Around
 pub mod InStep
 pub mod Steps
+pub mod Reporting

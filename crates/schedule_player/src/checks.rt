@@ -4,7 +4,8 @@ ghost use Rattle.std.specs.Prelude.{◌≡◌, ℕ, ◌<◌, ◌++◌, ◌∷◌
 ghost use Rattle.ask_history.specs.Sources.{some_of};
 ghost use Rattle.ask_history.specs.Checks.{due, check_begins, check_done};
 ghost use Rattle.ask_history.specs.Journal.{findings};
-ghost use Rattle.report_hub.specs.Hub.{reporters_of, of_box, OfEach, IsToldMost};
+ghost use Rattle.report_hub.specs.Hub.{reporters_of, of_box};
+ghost use Rattle.schedule_player.specs.Reporting.{KeepsTold};
 ghost use Rattle.schedule_player.specs.Around.{asks_of, top_work, with_work};
 ghost use Rattle.schedule_player.specs.InStep.{InStep, ChecksInStep};
 ghost use Rattle.schedule_player.specs.Steps.{Says, GoesOnLess, IsSameButFound, IsSameButChecks, ChecksOn, IsSameButTurns, IsOfChecks, Waits, HasCome};
@@ -67,7 +68,8 @@ impl Session {
         }
         match self.turn_check(engine)? {
             Step::NothingDue => Ok(false),
-            _ => Ok(true),
+            Step::GoesOn => Ok(true),
+            Step::Found => Ok(true),
         }
     }
 
@@ -103,9 +105,12 @@ impl Session {
         ensures done { OnOk result (self.new.journal ≡ check_done self.old.journal) }
         ensures begun { IfOk result (λ begun. begun ≡ check_begins self.old.journal) }
         ensures err { OnErr result (self.new.journal ≡ self.old.journal) }
-        ensures told { (start : _) → OfEach (IsToldMost (of_box told) (of_box faults) (findings N.problems_of self.old.journal)) start (reporters_of hub.old) → OfEach (IsToldMost (of_box told) (of_box faults) (findings N.problems_of self.new.journal)) start (reporters_of hub.new) }
+        ensures told { KeepsTold (of_box told) (of_box faults) (findings N.problems_of self.old.journal) (reporters_of hub.old) (findings N.problems_of self.new.journal) (reporters_of hub.new) }
     {
-        if self.is_closed() || !self.finds(engine)? {
+        if self.is_closed() {
+            return Ok(false);
+        }
+        if !self.finds(engine)? {
             return Ok(false);
         }
         match self.take_found() {
@@ -127,7 +132,7 @@ impl Session {
         ensures same { IsSameButChecks self.old self.new }
         ensures goes_on { ChecksOn self.old.journal self.new.journal }
         ensures over { OnOk result (check_begins self.new.journal ≡ false) }
-        ensures told { (start : _) → OfEach (IsToldMost (of_box told) (of_box faults) (findings N.problems_of self.old.journal)) start (reporters_of hub.old) → OfEach (IsToldMost (of_box told) (of_box faults) (findings N.problems_of self.new.journal)) start (reporters_of hub.new) }
+        ensures told { KeepsTold (of_box told) (of_box faults) (findings N.problems_of self.old.journal) (reporters_of hub.old) (findings N.problems_of self.new.journal) (reporters_of hub.new) }
     {
         while self.check(engine, hub)? {}
         Ok(())
