@@ -10,6 +10,7 @@ pub mod Reworks
 pub mod Accepts
 pub mod Checking
 pub mod Tellings
+pub mod CheckRuns
 pub mod Resumes
 pub mod Openings
 pub mod Ending
