@@ -11,6 +11,7 @@ pub mod Accepts
 pub mod Checking
 pub mod Tellings
 pub mod CheckRuns
+pub mod Arrivals
 pub mod Resumes
 pub mod Openings
 pub mod Ending

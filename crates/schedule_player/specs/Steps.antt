@@ -4,7 +4,7 @@ use Rattle.std.specs.List.{list_all}
 use Rattle.ask_history.specs.Sources.{Bytes, Sources, some_of}
 use Rattle.ask_history.specs.Journal.{accepted, call_of, reply}
 use Rattle.ask_history.specs.Checks.{due, check_begins, checks_alone}
-use Rattle.ask_history.specs.Nested.{Nested, Then, number_after}
+use Rattle.ask_history.specs.Nested.{Nested, Then, over, number_after}
 use Rattle.ask_history.specs.Schedule.{Part, play_line}
 use Rattle.ask_history.specs.declared.calls.Call.{Call}
 use Rattle.ask_history.specs.declared.answers.Answer.{Answer}
@@ -15,10 +15,10 @@ use Rattle.work_queue.specs.Queue.{mark_of, value_of}
 use Rattle.work_queue.specs.declared.limits.Settling.{Settling}
 use Rattle.work_queue.specs.declared.limits.Settling.TheVariants as settling
 use Rattle.schedule_player.specs.Owed.{is_settle}
-use Rattle.schedule_player.specs.Around.{HasMarks, LeadsTo, ending, onto, with_work, top_work}
+use Rattle.schedule_player.specs.Around.{HasMarks, LeadsTo, ComesAt, ending, onto, with_work, top_work}
 use Rattle.schedule_player.specs.SessionState.{SessionState}
 use Rattle.schedule_player.specs.declared.frames.Work.{Work}
-use Rattle.schedule_player.specs.declared.frames.Work.TheVariants.{Ask, Checks, Check}
+use Rattle.schedule_player.specs.declared.frames.Work.TheVariants.{Ask, Checks, Check, Passed}
 use Rattle.schedule_player.specs.declared.frames.Frame.{Frame}
 use Rattle.schedule_player.specs.declared.session.Found.{Found}
 use Rattle.schedule_player.specs.declared.checks.Step.{Step}
@@ -87,12 +87,29 @@ IsUnder (frame ∷ frames) level = frame.level < level
 abbrev pub HasCome : Work → ℕ → Type 0
 HasCome (Checks next) check = ⊥
 HasCome (Check number turns) check = number ≡ check
+HasCome Passed check = ⊥
 HasCome _ check = ⊤
 
 -- What is left is the same as before, where a line of this level and check is the next.
 pub record Waits (level check : ℕ) (old new : SessionState) : Type 0 where
   pub leads : (lines : List Line) (number : ℕ) (line : Line) (inner rest : Nested) → line.level ≡ level → line.check ≡ check
       → LeadsTo lines old.frames (Then number line inner rest) old.journal → LeadsTo lines new.frames (Then number line inner rest) new.journal
+
+-- The innermost line comes nearer to where a line of this check is played.
+pub record Reaches (check : ℕ) (old new : SessionState) : Type 0 where
+  pub under : (level : ℕ) → IsUnder old.frames level → IsUnder new.frames level
+  pub waits : (level : ℕ) → IsUnder old.frames level → Waits level check old new
+  pub tickets : new.tickets ≡ old.tickets
+
+-- All lines are ended that cannot have one of this level under them: what is left is the same, where none of a deeper level is next.
+pub record EndsTo (level : ℕ) (old new : SessionState) : Type 0 where
+  pub leads : (lines : List Line) (rest : Nested) → ComesAt level rest → LeadsTo lines old.frames rest old.journal → LeadsTo lines new.frames rest new.journal
+  pub tickets : new.tickets ≡ old.tickets
+
+-- A line was played: what is left are the lines after it.
+pub record PlaysLine (line : Line) (old new : SessionState) : Type 0 where
+  pub leads : (lines : List Line) (rest : Nested) → LeadsTo lines old.frames (over (length old.tickets) line rest) old.journal → LeadsTo lines new.frames rest new.journal
+  pub number : length new.tickets ≡ number_after line.order (length old.tickets)
 
 -- Only the turns of the innermost line may be more.
 abbrev pub IsSameLine : Work → Work → Type 0

@@ -1,6 +1,6 @@
 //! Checks of files, while no ask is open.
 
-ghost use Rattle.std.specs.Prelude.{◌≡◌, ℕ, ◌<◌, ◌++◌, ◌∷◌, [], length, Some, None, Ok, Err, true, false, is_some, IfOk, OnOk, OnErr};
+ghost use Rattle.std.specs.Prelude.{◌≡◌, ◌≢◌, ℕ, ◌<◌, ◌++◌, ◌∷◌, [], length, Some, None, Ok, Err, true, false, is_some, IfOk, OnOk, OnErr};
 ghost use Rattle.ask_history.specs.Sources.{some_of};
 ghost use Rattle.ask_history.specs.Checks.{due, check_begins, check_done};
 ghost use Rattle.ask_history.specs.Journal.{findings};
@@ -8,8 +8,8 @@ ghost use Rattle.report_hub.specs.Hub.{reporters_of, of_box};
 ghost use Rattle.schedule_player.specs.Reporting.{KeepsTold};
 ghost use Rattle.schedule_player.specs.Around.{asks_of, top_work, with_work};
 ghost use Rattle.schedule_player.specs.InStep.{InStep, ChecksInStep};
-ghost use Rattle.schedule_player.specs.Steps.{Says, GoesOnLess, IsSameButFound, IsSameButChecks, ChecksOn, IsSameButTurns, IsOfChecks, Waits, HasCome};
-ghost use Rattle.schedule_player.specs.declared.frames.Work.TheVariants.{Check};
+ghost use Rattle.schedule_player.specs.Steps.{Says, GoesOnLess, IsSameButFound, IsSameButChecks, ChecksOn, IsSameButTurns, IsOfChecks, Reaches, HasCome};
+ghost use Rattle.schedule_player.specs.declared.frames.Work.TheVariants.{Checks, Check, Passed};
 ghost use Rattle.schedule_player.specs.declared.checks.Step.TheVariants as step;
 
 use crate::frames::Work;
@@ -145,7 +145,16 @@ impl Session {
         hub: &mut Hub,
         next: u64,
         number: u32,
-    ) -> Result<(), NoMemory> {
+    ) -> Result<(), NoMemory>
+        requires in_step { InStep N.answer_of N.problems_of self.old (N.state engine.old) }
+        requires checks { ChecksInStep N.problems_of self.old (N.state engine.old) }
+        requires line { top_work self.old.frames ≡ Checks next }
+        ensures in_step { InStep N.answer_of N.problems_of self.new (N.state engine.new) }
+        ensures checks { OnOk result (ChecksInStep N.problems_of self.new (N.state engine.new)) }
+        ensures reaches { Reaches number self.old self.new }
+        ensures come { OnOk result (HasCome (top_work self.new.frames) number) }
+        ensures told { KeepsTold (of_box told) (of_box faults) (findings N.problems_of self.old.journal) (reporters_of hub.old) (findings N.problems_of self.new.journal) (reporters_of hub.new) }
+    {
         let mut next = next;
         while self.begins(engine)? {
             if u64::from(number) <= next {
@@ -167,7 +176,17 @@ impl Session {
         hub: &mut Hub,
         ended: u32,
         number: u32,
-    ) -> Result<(), NoMemory> {
+    ) -> Result<(), NoMemory>
+        requires in_step { InStep N.answer_of N.problems_of self.old (N.state engine.old) }
+        requires checks { ChecksInStep N.problems_of self.old (N.state engine.old) }
+        requires line { (turns : ℕ) × (top_work self.old.frames ≡ Check ended turns) }
+        requires other { ended ≢ number }
+        ensures in_step { InStep N.answer_of N.problems_of self.new (N.state engine.new) }
+        ensures checks { OnOk result (ChecksInStep N.problems_of self.new (N.state engine.new)) }
+        ensures reaches { Reaches number self.old self.new }
+        ensures come { OnOk result (HasCome (top_work self.new.frames) number) }
+        ensures told { KeepsTold (of_box told) (of_box faults) (findings N.problems_of self.old.journal) (reporters_of hub.old) (findings N.problems_of self.new.journal) (reporters_of hub.new) }
+    {
         let next = u64::from(ended) + 1;
         self.check(engine, hub)?;
         self.set_work(Work::Checks { next });
@@ -180,7 +199,16 @@ impl Session {
         engine: &mut N,
         hub: &mut Hub,
         number: u32,
-    ) -> Result<(), NoMemory> {
+    ) -> Result<(), NoMemory>
+        requires in_step { InStep N.answer_of N.problems_of self.old (N.state engine.old) }
+        requires checks { ChecksInStep N.problems_of self.old (N.state engine.old) }
+        requires line { top_work self.old.frames ≢ Passed }
+        ensures in_step { InStep N.answer_of N.problems_of self.new (N.state engine.new) }
+        ensures checks { OnOk result (ChecksInStep N.problems_of self.new (N.state engine.new)) }
+        ensures reaches { Reaches number self.old self.new }
+        ensures come { OnOk result (HasCome (top_work self.new.frames) number) }
+        ensures told { KeepsTold (of_box told) (of_box faults) (findings N.problems_of self.old.journal) (reporters_of hub.old) (findings N.problems_of self.new.journal) (reporters_of hub.new) }
+    {
         match self.top_work() {
             Work::Checks { next } => self.check_to(engine, hub, next, number),
             Work::Check { number: ended, .. } if ended != number => {
@@ -191,14 +219,40 @@ impl Session {
     }
 
     /// Turns the check that has begun, until it had so many turns or has found problems.
-    pub fn wait_in_check<N: Engine>(&mut self, engine: &mut N, until: u64) -> Result<(), NoMemory> {
+    pub fn wait_in_check<N: Engine>(&mut self, engine: &mut N, until: u64) -> Result<(), NoMemory>
+        requires in_step { InStep N.answer_of N.problems_of self.old (N.state engine.old) }
+        requires checks { ChecksInStep N.problems_of self.old (N.state engine.old) }
+        ensures in_step { InStep N.answer_of N.problems_of self.new (N.state engine.new) }
+        ensures checks { OnOk result (ChecksInStep N.problems_of self.new (N.state engine.new)) }
+        ensures same { IsSameButTurns self.old self.new }
+    {
         if let Work::Check { number, turns } = self.top_work() {
-            let mut turns = turns;
-            while turns < until && !self.is_closed() && self.turn_check(engine)? == Step::GoesOn {
-                turns += 1;
+            if self.is_closed() {
+                return Ok(());
             }
+            let turns = self.turns_of(engine, turns, until)?;
             self.set_work(Work::Check { number, turns });
         }
         Ok(())
+    }
+
+    // Turns a check until it had so many turns or has found problems. Gives how many it had.
+    fn turns_of<N: Engine>(&mut self, engine: &mut N, turns: u64, until: u64) -> Result<u64, NoMemory>
+        requires in_step { InStep N.answer_of N.problems_of self.old (N.state engine.old) }
+        requires checks { ChecksInStep N.problems_of self.old (N.state engine.old) }
+        requires live { self.old.closed ≡ false }
+        requires alone { asks_of self.old.frames ≡ [] }
+        ensures in_step { InStep N.answer_of N.problems_of self.new (N.state engine.new) }
+        ensures checks { OnOk result (ChecksInStep N.problems_of self.new (N.state engine.new)) }
+        ensures same { IsSameButFound self.old self.new }
+    {
+        let mut turns = turns;
+        while turns < until {
+            match self.turn_check(engine)? {
+                Step::GoesOn => turns += 1,
+                _ => break,
+            }
+        }
+        Ok(turns)
     }
 }
