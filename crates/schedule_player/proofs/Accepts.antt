@@ -39,7 +39,7 @@ use Rattle.schedule_player.proofs.Noted.{noted_accept, noted_settle}
 use Rattle.schedule_player.proofs.Ending.{marks_front, mark_last}
 
 module _ (answer_of : Sources → Call → Answer) (problems_of : Sources → Bytes → List Problem) (session : SessionState) (state : EngineState)
-  (step : InStep answer_of problems_of session state) (live : session.closed ≡ false) (call : Call) where
+    (step : InStep answer_of problems_of session state) (live : session.closed ≡ false) (call : Call) where
   abbrev ticket : ℕ
   ticket = accepted session.journal
 
@@ -50,7 +50,7 @@ module _ (answer_of : Sources → Call → Answer) (problems_of : Sources → By
   opened = record session {
     journal = session.journal ++ Accept (accepted session.journal) 0 (length session.tickets) call ∷ [];
     tickets = session.tickets ++ Some (accepted session.journal) ∷ [];
-    answers = session.answers ++ answer.Closed ∷ []
+    answers = session.answers ++ answer.Closed ∷ [];
   }
 
   shut : is_closed session.journal ≡ false
@@ -154,9 +154,12 @@ module _ (answer_of : Sources → Call → Answer) (problems_of : Sources → By
 
     ahead_stays : (found : Option Found) (names : List Bytes) → IsAhead problems_of session.journal found names → IsAhead problems_of (session.journal ++ event ∷ []) found names
     ahead_stays None names h = h ∙ sym same_checked
-    ahead_stays (Some f) names h =
-        (h.0 ∙ ap (λ ns. ns ++ f.file ∷ []) (sym same_checked), h.1 ∙ ap (λ files. problems_of files f.file) (sym same_after), h.2,
-        (λ j. unchecked (same_checked j) (same_after j)) ∙ h.3)
+    ahead_stays (Some f) names h = (
+      h.0 ∙ ap (λ ns. ns ++ f.file ∷ []) (sym same_checked),
+      h.1 ∙ ap (λ files. problems_of files f.file) (sym same_after),
+      h.2,
+      (λ j. unchecked (same_checked j) (same_after j)) ∙ h.3,
+    )
 
     pub asking_checks : ChecksInStep problems_of session state → ChecksInStep problems_of asking asking_state
     asking_checks checks = by fed
@@ -218,7 +221,7 @@ module _ (answer_of : Sources → Call → Answer) (problems_of : Sources → By
         journal = (session.journal ++ Accept (accepted session.journal) 0 (length session.tickets) call ∷ []) ++ Settle (accepted session.journal) m ∷ [];
         tickets = session.tickets ++ Some (accepted session.journal) ∷ [];
         answers = slice_set (session.answers ++ answer.Closed ∷ []) (accepted session.journal) value;
-        found = found_new
+        found = found_new;
       }
 
       mutating_noted : IsNoted answer_of problems_of mutating

@@ -53,7 +53,7 @@ settled_alone journal holds = settled_tickets (is_settled journal) journal calle
         (ap (λ b. b && not (is_settled journal t)) (sym there) ∙ holds.opens t ∙ and_right (not (is_closed journal)) false refl)
 
 module _ (answer_of : Sources → Call → Answer) (problems_of : Sources → Bytes → List Problem) (session : SessionState) (state : EngineState)
-  (in_step : InStep answer_of problems_of session state) (checks : ChecksInStep problems_of session state) (alone : asks_of session.frames ≡ []) where
+    (in_step : InStep answer_of problems_of session state) (checks : ChecksInStep problems_of session state) (alone : asks_of session.frames ≡ []) where
   pub no_asks : state.asks ≡ []
   no_asks = no_map (λ ask. ask.0) state.asks (in_step.served.fed ∙ if_none session.closed (fed_of session.frames) (fed_none session.frames alone))
 
@@ -104,7 +104,7 @@ module _ (answer_of : Sources → Call → Answer) (problems_of : Sources → By
       fed = ap (map (λ a. a.0)) asks ∙ s.fed;
       asked = subst (All (IsAsked session.journal)) (sym asks) s.asked;
       staged = staged ∙ s.staged;
-      sources = sources ∙ s.sources
+      sources = sources ∙ s.sources;
     };
   }
 
@@ -129,7 +129,6 @@ module _ (answer_of : Sources → Call → Answer) (problems_of : Sources → By
     pub done_is : check_done session.journal ≡ session.journal ++ Checked f.file ∷ []
     done_is = ap (λ b. if b then session.journal else first_checked (due session.journal) session.journal) shut ∙ ap (λ ns. first_checked ns session.journal) ahead.3
 
-
     same_after : after (session.journal ++ Checked f.file ∷ []) ≡ after session.journal
     same_after = after-push session.journal (Checked f.file)
 
@@ -145,7 +144,7 @@ module _ (answer_of : Sources → Call → Answer) (problems_of : Sources → By
         fed = s.fed;
         asked = asked_stays session.journal (Checked f.file) state.asks s.asked;
         staged = s.staged;
-        sources = s.sources ∙ sym same_after
+        sources = s.sources ∙ sym same_after;
       };
     }
 

@@ -12,6 +12,7 @@ pub mod Checking
 pub mod Tellings
 pub mod CheckRuns
 pub mod Arrivals
+pub mod Transitions
 pub mod Resumes
 pub mod Openings
 pub mod Ending

@@ -71,7 +71,7 @@ module _ (answer_of : Sources → Call → Answer) (problems_of : Sources → By
       → IsNoted answer_of problems_of (record session {
         journal = session.journal ++ Accept ticket 0 (length session.tickets) call ∷ [];
         tickets = session.tickets ++ Some ticket ∷ [];
-        answers = session.answers ++ answer.Closed ∷ []
+        answers = session.answers ++ answer.Closed ∷ [];
       })
   noted_accept ticket call = record {
     numbered = λ k. index_push session.tickets ticket k (past session.tickets)

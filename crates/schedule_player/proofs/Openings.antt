@@ -27,8 +27,8 @@ use Rattle.schedule_player.proofs.Same.{in_step_at, checks_at}
 use Rattle.schedule_player.proofs.Accepts.{opened, called_now, few, not_open_yet, asking, asking_state, asking_in_step, asking_checks, asking_plays, mutation_open, mutation_next, mutating, mutating_in_step, mutating_plays, mutation_right, after_is, checked_is, effect_is}
 
 module _ (answer_of : Sources → Call → Answer) (problems_of : Sources → Bytes → List Problem) (session : SessionState) (state : EngineState)
-  (step : InStep answer_of problems_of session state) (live : session.closed ≡ false) (call : Call)
-  (now : SessionState) (t : ℕ) (there : Call) (is : now ≡ opened answer_of problems_of session state step live call) (at : t ≡ accepted session.journal) (named : call_of now.journal t ≡ Some there) where
+    (step : InStep answer_of problems_of session state) (live : session.closed ≡ false) (call : Call)
+    (now : SessionState) (t : ℕ) (there : Call) (is : now ≡ opened answer_of problems_of session state step live call) (at : t ≡ accepted session.journal) (named : call_of now.journal t ≡ Some there) where
   some_call : (a b : Call) → Some a ≡ Some b → a ≡ b
   some_call a b h = cc
 
@@ -80,7 +80,7 @@ module _ (answer_of : Sources → Call → Answer) (problems_of : Sources → By
 
     -- out of memory
     module _ (placed : IsPlaced session.frames) (value : Sources → Call → Answer) (new : SessionState)
-      (e : new ≡ record now { journal = now.journal ++ Settle t mark.NoMemory ∷ []; answers = slice_set now.answers t (reply value now.journal t mark.NoMemory) }) where
+        (e : new ≡ record now { journal = now.journal ++ Settle t mark.NoMemory ∷ []; answers = slice_set now.answers t (reply value now.journal t mark.NoMemory) }) where
       right_there : reply value (opened answer_of problems_of session state step live call).journal (accepted session.journal) mark.NoMemory ≡ reply answer_of (opened answer_of problems_of session state step live call).journal (accepted session.journal) mark.NoMemory
       right_there = mutation_right answer_of problems_of session state step live call is_mutation_call mark.NoMemory value
 
@@ -107,14 +107,17 @@ module _ (answer_of : Sources → Call → Answer) (problems_of : Sources → By
           ahead : (found : Option Found) (names : List Bytes) → IsAhead problems_of session.journal found names
               → IsAhead problems_of ((session.journal ++ Accept (accepted session.journal) 0 (length session.tickets) call ∷ []) ++ Settle (accepted session.journal) mark.NoMemory ∷ []) found names
           ahead None names h = h ∙ sym same_checked
-          ahead (Some f) names h =
-              (h.0 ∙ ap (λ ns. ns ++ f.file ∷ []) (sym same_checked), h.1 ∙ ap (λ files. problems_of files f.file) (sym same_after), h.2,
-              (λ i. unchecked (same_checked i) (same_after i)) ∙ h.3)
+          ahead (Some f) names h = (
+            h.0 ∙ ap (λ ns. ns ++ f.file ∷ []) (sym same_checked),
+            h.1 ∙ ap (λ files. problems_of files f.file) (sym same_after),
+            h.2,
+            (λ i. unchecked (same_checked i) (same_after i)) ∙ h.3,
+          )
 
     -- in force
     module _ (placed : IsPlaced session.frames) (value : Sources → Call → Answer) (after_feed settled : EngineState) (effect : Effect) (new : SessionState)
-      (e : new ≡ record now { journal = now.journal ++ Settle t mark.Done ∷ []; answers = slice_set now.answers t (reply value now.journal t mark.Done); found = None })
-      (staged : after_feed ≡ record state { staged = Some (t, there) }) (applies : effect ≡ effect_of (taking_effect now.journal t mark.Done)) (g : settled ≡ settled_state after_feed t effect) where
+        (e : new ≡ record now { journal = now.journal ++ Settle t mark.Done ∷ []; answers = slice_set now.answers t (reply value now.journal t mark.Done); found = None })
+        (staged : after_feed ≡ record state { staged = Some (t, there) }) (applies : effect ≡ effect_of (taking_effect now.journal t mark.Done)) (g : settled ≡ settled_state after_feed t effect) where
       right_made : reply value (opened answer_of problems_of session state step live call).journal (accepted session.journal) mark.Done ≡ reply answer_of (opened answer_of problems_of session state step live call).journal (accepted session.journal) mark.Done
       right_made = mutation_right answer_of problems_of session state step live call is_mutation_call mark.Done value
 

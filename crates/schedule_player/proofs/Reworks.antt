@@ -62,10 +62,11 @@ module _ (frames : List Frame) (new : Work) (replaces : Replaces (top_work frame
     where
       by : (fs : List Frame) → Replaces (top_work fs) new (asks_of (around fs)) → AreStacked fs → AreStacked (with_work new fs)
       by [] r stacked = stacked
-      by (frame ∷ fs) r stacked =
-          (r.stands,
-          (λ j. stacked.1 j || r.is j) ∙ or_twice (top_under_ask fs) (is_ask frame.work) ∙ ap (λ b. top_under_ask fs || b) (sym r.is),
-          stacked.2)
+      by (frame ∷ fs) r stacked = (
+        r.stands,
+        (λ j. stacked.1 j || r.is j) ∙ or_twice (top_under_ask fs) (is_ask frame.work) ∙ ap (λ b. top_under_ask fs || b) (sym r.is),
+        stacked.2,
+      )
 
 module _ (answer_of : Sources → Call → Answer) (problems_of : Sources → Bytes → List Problem) (session : SessionState) (state : EngineState) (new : Work) where
   abbrev pub reworked : SessionState
@@ -81,7 +82,7 @@ module _ (answer_of : Sources → Call → Answer) (problems_of : Sources → By
       fed = s.fed ∙ ap (λ ts. if session.closed then [] else ts) (sym (rework_fed session.frames new replaces));
       asked = s.asked;
       staged = s.staged;
-      sources = s.sources
+      sources = s.sources;
     };
   }
 

@@ -76,10 +76,10 @@ module _ (session : SessionState) (state : EngineState) (served : IsServed sessi
   settled_top ticket top stacked =
       let there = top_served ticket top in
       let none : list_any (λ u. u == ticket) (map (λ ask. ask.0) there.below) ≡ false =
-          ap (list_any (λ u. u == ticket)) there.fed ∙ fed_among (around session.frames) ticket (new_top session.frames ticket true top stacked) in
+      ap (list_any (λ u. u == ticket)) there.fed ∙ fed_among (around session.frames) ticket (new_top session.frames ticket true top stacked) in
       let left : filter (λ ask. not (ask.0 == ticket)) state.asks ≡ there.below =
-          ap (filter (λ ask. not (ask.0 == ticket))) there.top
-          ∙ filter-append (λ ask. not (ask.0 == ticket)) there.below ((ticket, there.call) ∷ [])
-          ∙ (λ j. filter_none there.below ticket none j ++ (if not (eq-eqb ticket ticket refl j) then (ticket, there.call) ∷ [] else []))
-          ∙ append-nil there.below in
+      ap (filter (λ ask. not (ask.0 == ticket))) there.top
+      ∙ filter-append (λ ask. not (ask.0 == ticket)) there.below ((ticket, there.call) ∷ [])
+      ∙ (λ j. filter_none there.below ticket none j ++ (if not (eq-eqb ticket ticket refl j) then (ticket, there.call) ∷ [] else []))
+      ∙ append-nil there.below in
       (there, ap (λ staged. if is_staged staged ticket then mutation_settled state Dropped staged else ask_settled state ticket) served.staged ∙ ap (λ asks. record state { asks = asks }) left)

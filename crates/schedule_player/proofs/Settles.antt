@@ -69,7 +69,7 @@ module _ (answer_of : Sources → Call → Answer) (journal : List Event) (ticke
 -- ---- an ask that is the innermost line
 
 module _ (answer_of : Sources → Call → Answer) (problems_of : Sources → Bytes → List Problem) (session : SessionState) (state : EngineState)
-  (step : InStep answer_of problems_of session state) (live : session.closed ≡ false) (ticket : ℕ) (fed : Bool) (top : top_ask session.frames ≡ Some (ticket, fed)) where
+    (step : InStep answer_of problems_of session state) (live : session.closed ≡ false) (ticket : ℕ) (fed : Bool) (top : top_ask session.frames ≡ Some (ticket, fed)) where
   open_now : is_closed session.journal ≡ false
   open_now = sym step.closed ∙ live
 

@@ -1,5 +1,5 @@
 -- What the steps of playing a schedule do to the journal and to the lines that are left.
-use Rattle.std.specs.Prelude.{◌≡◌, ◌<◌, ⊤, ℕ, Bool, true, false, not, ◌&&◌, if◌then◌else◌, List, [], ◌∷◌, ◌++◌, length, Option, Some, None, is_some}
+use Rattle.std.specs.Prelude.{◌≡◌, ◌<◌, ⊤, ℕ, Bool, true, false, not, ◌&&◌, if◌then◌else◌, List, [], ◌∷◌, ◌++◌, length, Option, Some, None, is_some, slice_index_or, Result, Ok, Err}
 use Rattle.std.specs.List.{list_all}
 use Rattle.ask_history.specs.Sources.{Bytes, Sources, some_of}
 use Rattle.ask_history.specs.Journal.{accepted, call_of, reply}
@@ -15,7 +15,7 @@ use Rattle.work_queue.specs.Queue.{mark_of, value_of}
 use Rattle.work_queue.specs.declared.limits.Settling.{Settling}
 use Rattle.work_queue.specs.declared.limits.Settling.TheVariants as settling
 use Rattle.schedule_player.specs.Owed.{is_settle}
-use Rattle.schedule_player.specs.Around.{HasMarks, LeadsTo, ComesAt, ending, onto, with_work, top_work}
+use Rattle.schedule_player.specs.Around.{HasMarks, LeadsTo, ComesAt, ending, around, onto, with_work, top_work}
 use Rattle.schedule_player.specs.SessionState.{SessionState}
 use Rattle.schedule_player.specs.declared.frames.Work.{Work}
 use Rattle.schedule_player.specs.declared.frames.Work.TheVariants.{Ask, Checks, Check, Passed}
@@ -50,10 +50,20 @@ top_ask frames = ask_in (top_work frames)
 
 -- ---- ends
 
+-- What is left of the innermost line, with no line under it, is the same.
+pub record KeepsLine (work : Work) (old new : List Event) : Type 0 where
+  pub marks : (without : List ℕ) → HasMarks without new → HasMarks without old
+  pub same : (without : List ℕ) → HasMarks without new → ending without work [] old ≡ ending without work [] new
+
 -- What is left of the innermost line, with no line under it, makes the new journal of the old one.
 pub record Ends (work : Work) (old new : List Event) : Type 0 where
   pub marks : (without : List ℕ) → HasMarks without new → HasMarks without old
   pub ends : (without : List ℕ) → HasMarks without new → ending without work [] old ≡ new
+
+-- The innermost line has ended, or, out of memory, what is left of it is the same.
+abbrev pub EndsOrKeeps : {V E : Type 0} → Result V E → SessionState → SessionState → Type 0
+EndsOrKeeps (Ok done) old new = Ends (top_work old.frames) old.journal new.journal × (new.frames ≡ around old.frames) × (new.tickets ≡ old.tickets)
+EndsOrKeeps (Err e) old new = KeepsLine (top_work old.frames) old.journal new.journal × (new.frames ≡ old.frames) × (new.tickets ≡ old.tickets)
 
 -- Calls were settled, and nothing else.
 pub record OnlySettles (old new : List Event) : Type 0 where
@@ -156,3 +166,9 @@ abbrev pub IsOfChecks : Work → Type 0
 IsOfChecks (Checks next) = ⊤
 IsOfChecks (Check number turns) = ⊤
 IsOfChecks _ = ⊥
+
+-- A line that is passed over is numbered where it is a call line.
+abbrev pub PassesOver : {V E : Type 0} → Result V E → Order → SessionState → SessionState → Type 0
+PassesOver (Ok done) order old new = (new ≡ record old { tickets = new.tickets }) × (length new.tickets ≡ number_after order (length old.tickets))
+    × ((k : ℕ) → slice_index_or new.tickets k None ≡ slice_index_or old.tickets k None)
+PassesOver (Err e) order old new = new ≡ old

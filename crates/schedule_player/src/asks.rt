@@ -98,13 +98,7 @@ impl Session {
     }
 
     // Settles the innermost line, an open ask, and takes it off.
-    fn settle_ask<N: Engine>(
-        &mut self,
-        engine: &mut N,
-        ticket: u64,
-        is_fed: bool,
-        what: Settling,
-    )
+    fn settle_ask<N: Engine>(&mut self, engine: &mut N, ticket: u64, is_fed: bool, what: Settling)
         requires in_step { InStep N.answer_of N.problems_of self.old (N.state engine.old) }
         requires live { self.old.closed ≡ false }
         requires top { top_ask self.old.frames ≡ Some (ticket, is_fed) }

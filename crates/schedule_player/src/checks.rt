@@ -237,7 +237,12 @@ impl Session {
     }
 
     // Turns a check until it had so many turns or has found problems. Gives how many it had.
-    fn turns_of<N: Engine>(&mut self, engine: &mut N, turns: u64, until: u64) -> Result<u64, NoMemory>
+    fn turns_of<N: Engine>(
+        &mut self,
+        engine: &mut N,
+        turns: u64,
+        until: u64,
+    ) -> Result<u64, NoMemory>
         requires in_step { InStep N.answer_of N.problems_of self.old (N.state engine.old) }
         requires checks { ChecksInStep N.problems_of self.old (N.state engine.old) }
         requires live { self.old.closed ≡ false }

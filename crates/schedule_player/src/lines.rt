@@ -1,19 +1,41 @@
 //! Lines that are played, one after another.
 
-use crate::frames::{Frame, Work};
+ghost use Rattle.std.specs.Prelude.{◌≡◌, ◌≢◌, ℕ, ◌<◌, ◌++◌, ◌∷◌, [], List, length, Some, None, Ok, Err, true, false, IfOk, OnOk, OnErr};
+ghost use Rattle.ask_history.specs.Journal.{findings};
+ghost use Rattle.ask_history.specs.Nested.{Nested};
+ghost use Rattle.ask_history.specs.declared.script.Line.{Line};
+ghost use Rattle.ask_history.specs.declared.script.Order.TheVariants as order;
+ghost use Rattle.report_hub.specs.Hub.{reporters_of, of_box};
+ghost use Rattle.schedule_player.specs.Owed.{CanPost, CanPlay};
+ghost use Rattle.schedule_player.specs.Reporting.{KeepsTold};
+ghost use Rattle.schedule_player.specs.Around.{ComesAt, LeadsTo, around, first_of, onto, top_work, with_work};
+ghost use Rattle.schedule_player.specs.InStep.{InStep, ChecksInStep};
+ghost use Rattle.schedule_player.specs.Steps.{IsPlaced, PlaysOrder, Ends, EndsOrKeeps, EndsTo, IsUnder, Reaches, HasCome, PlaysLine, PassesOver};
+ghost use Rattle.schedule_player.specs.declared.frames.Work.TheVariants.{Passed};
+
+use crate::frames::Work;
 use crate::session::Session;
 use ask_history::{Call, Engine, Line, Order};
 use pc_terms::NoMemory;
 use report_hub::Hub;
 
 impl Session {
-    // Ends the innermost line: its lines are all played.
+    // Ends the innermost line: the lines under it are all played.
     fn finish<N: Engine>(
         &mut self,
         engine: &mut N,
         hub: &mut Hub,
         work: Work,
-    ) -> Result<(), NoMemory> {
+    ) -> Result<(), NoMemory>
+        requires in_step { InStep N.answer_of N.problems_of self.old (N.state engine.old) }
+        requires checks { ChecksInStep N.problems_of self.old (N.state engine.old) }
+        requires top { top_work self.old.frames ≡ work }
+        requires some { self.old.frames ≢ [] }
+        ensures in_step { InStep N.answer_of N.problems_of self.new (N.state engine.new) }
+        ensures checks { OnOk result (ChecksInStep N.problems_of self.new (N.state engine.new)) }
+        ensures ends { EndsOrKeeps result self.old self.new }
+        ensures told { KeepsTold (of_box told) (of_box faults) (findings N.problems_of self.old.journal) (reporters_of hub.old) (findings N.problems_of self.new.journal) (reporters_of hub.new) }
+    {
         match work {
             Work::Ask { ticket, is_fed, .. } => self.finish_ask(engine, ticket, is_fed),
             Work::Checks { .. } | Work::Check { .. } => {
@@ -33,7 +55,15 @@ impl Session {
         engine: &mut N,
         hub: &mut Hub,
         level: u32,
-    ) -> Result<(), NoMemory> {
+    ) -> Result<(), NoMemory>
+        requires in_step { InStep N.answer_of N.problems_of self.old (N.state engine.old) }
+        requires checks { ChecksInStep N.problems_of self.old (N.state engine.old) }
+        ensures in_step { InStep N.answer_of N.problems_of self.new (N.state engine.new) }
+        ensures checks { OnOk result (ChecksInStep N.problems_of self.new (N.state engine.new)) }
+        ensures ends { EndsTo level self.old self.new }
+        ensures under { OnOk result (IsUnder self.new.frames level) }
+        ensures told { KeepsTold (of_box told) (of_box faults) (findings N.problems_of self.old.journal) (reporters_of hub.old) (findings N.problems_of self.new.journal) (reporters_of hub.new) }
+    {
         while let Some(frame) = self.top() {
             if frame.level < level {
                 break;
@@ -50,14 +80,32 @@ impl Session {
         hub: &mut Hub,
         check: u32,
         turn: u32,
-    ) -> Result<(), NoMemory> {
+    ) -> Result<(), NoMemory>
+        requires in_step { InStep N.answer_of N.problems_of self.old (N.state engine.old) }
+        requires checks { ChecksInStep N.problems_of self.old (N.state engine.old) }
+        requires line { top_work self.old.frames ≢ Passed }
+        ensures in_step { InStep N.answer_of N.problems_of self.new (N.state engine.new) }
+        ensures checks { OnOk result (ChecksInStep N.problems_of self.new (N.state engine.new)) }
+        ensures reaches { Reaches check self.old self.new }
+        ensures come { OnOk result (HasCome (top_work self.new.frames) check) }
+        ensures told { KeepsTold (of_box told) (of_box faults) (findings N.problems_of self.old.journal) (reporters_of hub.old) (findings N.problems_of self.new.journal) (reporters_of hub.new) }
+    {
         self.reach(engine, hub, check)?;
         self.wait_in_ask(engine, u64::from(turn));
         self.wait_in_check(engine, u64::from(turn))
     }
 
     // Plays a call line. What stands under it is played in its place where it is refused.
-    fn play_call<N: Engine>(&mut self, engine: &mut N, call: Call) -> Result<(), NoMemory> {
+    fn play_call<N: Engine>(&mut self, engine: &mut N, call: Call) -> Result<(), NoMemory>
+        requires in_step { InStep N.answer_of N.problems_of self.old (N.state engine.old) }
+        requires checks { ChecksInStep N.problems_of self.old (N.state engine.old) }
+        requires can { CanPost call }
+        requires placed { IsPlaced self.old.frames }
+        ensures in_step { InStep N.answer_of N.problems_of self.new (N.state engine.new) }
+        ensures checks { ChecksInStep N.problems_of self.new (N.state engine.new) }
+        ensures plays { OnOk result (PlaysOrder (order.Call call) self.old self.new) }
+        ensures err { OnErr result (self.new ≡ self.old) }
+    {
         if self.is_closed() {
             self.refuse()?;
             self.set_work(Work::Beside);
@@ -82,9 +130,18 @@ impl Session {
     }
 
     // Plays what the innermost line asks for.
-    fn play_order<N: Engine>(&mut self, engine: &mut N, order: Order) -> Result<(), NoMemory> {
+    fn play_order<N: Engine>(&mut self, engine: &mut N, order: Order) -> Result<(), NoMemory>
+        requires in_step { InStep N.answer_of N.problems_of self.old (N.state engine.old) }
+        requires checks { ChecksInStep N.problems_of self.old (N.state engine.old) }
+        requires can { CanPlay order }
+        requires placed { IsPlaced self.old.frames }
+        ensures in_step { InStep N.answer_of N.problems_of self.new (N.state engine.new) }
+        ensures checks { ChecksInStep N.problems_of self.new (N.state engine.new) }
+        ensures plays { OnOk result (PlaysOrder order self.old self.new) }
+        ensures err { OnErr result (self.new ≡ self.old) }
+    {
         match order {
-            Order::Call(call) => self.play_call(engine, call)?,
+            Order::Call(call) => return self.play_call(engine, call),
             Order::Cancel(number) => self.cancel(number),
             Order::Close => self.play_close(engine),
             Order::Wait(_) => {}
@@ -94,7 +151,9 @@ impl Session {
     }
 
     // A line that is passed over still has its number.
-    fn pass_over(&mut self, order: Order) -> Result<(), NoMemory> {
+    fn pass_over(&mut self, order: Order) -> Result<(), NoMemory>
+        ensures { PassesOver result order self.old self.new }
+    {
         match order {
             Order::Call(_call) => self.refuse(),
             _ => Ok(()),

@@ -57,7 +57,6 @@ pub struct Session {
 
 impl Model for Session {
     ghost use Rattle.schedule_player.specs.SessionState.{SessionState};
-
     ghost use Rattle.std.specs.Coded.{codes};
     ghost use Rattle.ask_history.specs.contracts.answers.Answer as answer;
 

@@ -14,7 +14,7 @@ invariant-loop g l = record {
   same : IsSameButChecks l.initial.self l.self;
   goes_on : ChecksOn l.initial.self.journal l.self.journal;
   told : KeepsTold (λ b. (goal.Reporter-dyn g (b.vtable, b.value)).told b.value) (λ b. (goal.Reporter-dyn g (b.vtable, b.value)).faults b.value)
-      (findings g.N.Engine.problems_of l.initial.self.journal) (reporters_of l.initial.hub) (findings g.N.Engine.problems_of l.self.journal) (reporters_of l.hub)
+      (findings g.N.Engine.problems_of l.initial.self.journal) (reporters_of l.initial.hub) (findings g.N.Engine.problems_of l.self.journal) (reporters_of l.hub);
 }
 
 abbrev pub decreases-loop : goal.decreases-loop

@@ -25,7 +25,7 @@ take_off-requires g c = λ fed. may_settle_top _ _ c.requires.in_step.served c.r
 off : (g : given.Over) (c : goal.After-pop g) → c.pop.new.self ≡ record c.args.self.now {
   journal = c.args.self.now.journal ++ Settle c.args.ticket (mark_of c.args.what) ∷ [];
   answers = slice_set c.args.self.now.answers c.args.ticket (reply (λ files call. value_of c.args.what) c.args.self.now.journal c.args.ticket (mark_of c.args.what));
-  frames = around c.args.self.now.frames
+  frames = around c.args.self.now.frames;
 }
 off g c = c.pop.ensures ∙ ap {A = SessionState} (λ s. record s { frames = around s.frames }) c.settle.ensures.session
 
