@@ -10,7 +10,7 @@ use Rattle.ask_history.specs.declared.events.Event.{Event}
 use Rattle.ask_history.specs.declared.events.Event.TheVariants.{Checked}
 use Rattle.ask_history.proofs.Idles.{checks_end, due-fewer}
 use Rattle.schedule_player.specs.Around.{HasMarks, ending, in_check}
-use Rattle.schedule_player.specs.Steps.{Ends, ChecksOn, IsSameButChecks, IsOfChecks}
+use Rattle.schedule_player.specs.Steps.{Ends, KeepsLine, ChecksOn, IsSameButChecks, IsOfChecks}
 use Rattle.schedule_player.specs.SessionState.{SessionState}
 use Rattle.schedule_player.specs.declared.frames.Work.{Work}
 use Rattle.schedule_player.specs.declared.frames.Work.TheVariants.{Ask, Checks, Check, Beside, Passed}
@@ -187,3 +187,11 @@ module _ (without : List ℕ) (check : ℕ) (parts : List Part) (first : FirstPa
       ap (λ ps. in_check number ps journal) first.is
       ∙ ap (λ b. if b then play_checks (number + 1) first.others (check_done (first.part.play journal)) else play_checks (number + 1) (first.part ∷ first.others) (check_done journal)) (ap (λ c. number == c) first.of_check ∙ h)
       ∙ ap (λ ps. play_checks (number + 1) ps (check_done journal)) (sym first.is)
+
+-- what is left of a line of checks is the same after some of them
+pub checks_kept : (work : Work) (old new : List Event) → IsOfChecks work → all_settled old ≡ true → all_settled new ≡ true → ChecksOn old new → KeepsLine work old new
+checks_kept (Checks next) old new is settled now on = record { marks = on.marks; same = λ without k. on.same }
+checks_kept (Check number turns) old new is settled now on = record { marks = on.marks; same = λ without k. after_check old settled ∙ on.same ∙ sym (after_check new now) }
+checks_kept (Ask ticket is_fed turns) old new is settled now on = absurd is
+checks_kept Beside old new is settled now on = absurd is
+checks_kept Passed old new is settled now on = absurd is

@@ -1,19 +1,24 @@
 -- How the innermost line of checks comes to the check of the next line.
-use Rattle.std.proofs.Common.{◌≡◌, ℕ, ◌<◌, ◌≤◌, ◌+◌, ◌==◌, Bool, true, false, List, [], refl, sym, ap, ◌∙◌, subst}
+use Rattle.std.proofs.Common.{◌≡◌, ℕ, ◌<◌, ◌≤◌, ◌+◌, ◌==◌, Bool, true, false, List, [], ◌∷◌, refl, sym, ap, ◌∙◌, subst}
 use Rattle.pc_terms.specs.declared.problems.Problem.{Problem}
 use Rattle.ask_history.specs.Sources.{Bytes, Sources}
 use Rattle.ask_history.specs.Engine.{EngineState}
 use Rattle.ask_history.specs.Checks.{check_begins, check_done}
+use Rattle.ask_history.specs.Journal.{all_settled}
+use Rattle.ask_history.proofs.Underway.{Holds}
 use Rattle.ask_history.specs.declared.calls.Call.{Call}
 use Rattle.ask_history.specs.declared.answers.Answer.{Answer}
 use Rattle.schedule_player.specs.Around.{HasMarks, ending, top_work, with_work, asks_of}
-use Rattle.schedule_player.specs.Steps.{Reaches, IsSameButFound, IsSameButChecks, IsOfChecks}
+use Rattle.schedule_player.specs.Steps.{Reaches, IsSameButFound, IsSameButChecks, IsSameButTurns, IsSameLine, HasCome, IsOfChecks}
 use Rattle.schedule_player.specs.SessionState.{SessionState}
 use Rattle.schedule_player.specs.InStep.{InStep}
 use Rattle.schedule_player.specs.declared.frames.Work.{Work}
-use Rattle.schedule_player.specs.declared.frames.Work.TheVariants.{Checks, Check, Beside}
+use Rattle.schedule_player.specs.declared.frames.Work.TheVariants.{Ask, Checks, Check, Beside, Passed}
+use Rattle.schedule_player.specs.declared.frames.Frame.{Frame}
+use Rattle.ask_history.specs.Schedule.{Part}
+use Rattle.ask_history.specs.declared.events.Event.{Event}
 use Rattle.schedule_player.proofs.Same.{in_step_at}
-use Rattle.schedule_player.proofs.Checking.{same_journal, same_frames, same_tickets}
+use Rattle.schedule_player.proofs.Checking.{settled_alone, same_journal, same_frames, same_tickets}
 use Rattle.schedule_player.proofs.CheckRuns.{FirstPart, done_marks, checks_over, checks_here, checks_next, check_left}
 use Rattle.schedule_player.proofs.Arrivals.{IsCalm, reach_step, reach_then, reach_still, some_frames, alone_of, calm_in_step, top_with, of_checks, of_check}
 
@@ -80,3 +85,40 @@ new_line session new work is e = ap {A = SessionState} (λ s. top_work s.frames)
 
 pub alone_in : {answer_of : Sources → Call → Answer} {problems_of : Sources → Bytes → List Problem} (session : SessionState) {state : EngineState} → InStep answer_of problems_of session state → IsOfChecks (top_work session.frames) → asks_of session.frames ≡ []
 alone_in session step is = alone_of session.frames is step.stacked
+
+-- a turn more or less of the innermost line changes nothing for the lines
+same_line_ending : (without : List ℕ) (old new : Work) (parts : List Part) (journal : List Event) → IsSameLine old new → ending without old parts journal ≡ ending without new parts journal
+same_line_ending without (Ask ticket is_fed turns) new parts journal same = sym (ap (λ w. ending without w parts journal) same.1)
+same_line_ending without (Check number turns) new parts journal same = sym (ap (λ w. ending without w parts journal) same.1)
+same_line_ending without (Checks next) new parts journal same = sym (ap (λ w. ending without w parts journal) same)
+same_line_ending without Beside new parts journal same = sym (ap (λ w. ending without w parts journal) same)
+same_line_ending without Passed new parts journal same = sym (ap (λ w. ending without w parts journal) same)
+
+pub turns_reach : (check : ℕ) (old new : SessionState) → IsSameButTurns old new → Reaches check old new
+turns_reach check old new same = by old.frames refl
+  where
+    by : (fs : List Frame) → old.frames ≡ fs → Reaches check old new
+    by [] e = reach_still check old new (same.frames ∙ ap (with_work same.work) e ∙ sym e) same.journal same.tickets
+    by (frame ∷ fs) e = reach_step check old new same.work same.frames same.tickets (λ without h. subst (HasMarks without) same.journal h)
+        (λ without parts first h. same_line_ending without (top_work old.frames) same.work parts old.journal same.line ∙ ap (ending without same.work parts) (sym same.journal))
+        (λ none. cons_not (sym e ∙ none))
+      where
+        cons_not : frame ∷ fs ≡ [] → ⊥
+        cons_not h = cc
+
+same_line_come : (old new : Work) (check : ℕ) → IsSameLine old new → HasCome old check → HasCome new check
+same_line_come (Ask ticket is_fed turns) new check same come = subst (λ w. HasCome w check) (sym same.1) come
+same_line_come (Check number turns) new check same come = subst (λ w. HasCome w check) (sym same.1) come
+same_line_come (Checks next) new check same come = subst (λ w. HasCome w check) (sym same) come
+same_line_come Beside new check same come = subst (λ w. HasCome w check) (sym same) come
+same_line_come Passed new check same come = subst (λ w. HasCome w check) (sym same) come
+
+pub turns_come : (check : ℕ) (old new : SessionState) → IsSameButTurns old new → HasCome (top_work old.frames) check → HasCome (top_work new.frames) check
+turns_come check old new same come = by old.frames refl
+  where
+    by : (fs : List Frame) → old.frames ≡ fs → HasCome (top_work new.frames) check
+    by [] e = subst (λ ws. HasCome (top_work ws) check) (e ∙ sym (same.frames ∙ ap (with_work same.work) e)) come
+    by (frame ∷ fs) e = subst (λ w. HasCome w check) (sym (ap top_work (same.frames ∙ ap (with_work same.work) e))) (same_line_come (top_work old.frames) same.work check same.line come)
+
+pub settled_in : {answer_of : Sources → Call → Answer} {problems_of : Sources → Bytes → List Problem} (session : SessionState) {state : EngineState} → InStep answer_of problems_of session state → IsOfChecks (top_work session.frames) → all_settled session.journal ≡ true
+settled_in session step is = settled_alone session.journal (subst (λ ts. Holds ts session.journal) (alone_of session.frames is step.stacked) step.holds)

@@ -1,5 +1,5 @@
 -- What the steps of playing a schedule do to the journal and to the lines that are left.
-use Rattle.std.specs.Prelude.{◌≡◌, ◌<◌, ⊤, ℕ, Bool, true, false, not, ◌&&◌, if◌then◌else◌, List, [], ◌∷◌, ◌++◌, length, Option, Some, None, is_some, slice_index_or, Result, Ok, Err}
+use Rattle.std.specs.Prelude.{◌≡◌, ◌<◌, ⊤, ℕ, Bool, true, false, not, ◌&&◌, ◌||◌, if◌then◌else◌, List, [], ◌∷◌, ◌++◌, length, Option, Some, None, is_some, slice_index_or, Result, Ok, Err}
 use Rattle.std.specs.List.{list_all}
 use Rattle.ask_history.specs.Sources.{Bytes, Sources, some_of}
 use Rattle.ask_history.specs.Journal.{accepted, call_of, reply}
@@ -15,10 +15,10 @@ use Rattle.work_queue.specs.Queue.{mark_of, value_of}
 use Rattle.work_queue.specs.declared.limits.Settling.{Settling}
 use Rattle.work_queue.specs.declared.limits.Settling.TheVariants as settling
 use Rattle.schedule_player.specs.Owed.{is_settle}
-use Rattle.schedule_player.specs.Around.{HasMarks, LeadsTo, ComesAt, ending, around, onto, with_work, top_work}
+use Rattle.schedule_player.specs.Around.{HasMarks, LeadsTo, ComesAt, ending, around, onto, with_work, top_work, top_under_ask}
 use Rattle.schedule_player.specs.SessionState.{SessionState}
 use Rattle.schedule_player.specs.declared.frames.Work.{Work}
-use Rattle.schedule_player.specs.declared.frames.Work.TheVariants.{Ask, Checks, Check, Passed}
+use Rattle.schedule_player.specs.declared.frames.Work.TheVariants.{Ask, Checks, Check, Beside, Passed}
 use Rattle.schedule_player.specs.declared.frames.Frame.{Frame}
 use Rattle.schedule_player.specs.declared.session.Found.{Found}
 use Rattle.schedule_player.specs.declared.checks.Step.{Step}
@@ -60,10 +60,17 @@ pub record Ends (work : Work) (old new : List Event) : Type 0 where
   pub marks : (without : List ℕ) → HasMarks without new → HasMarks without old
   pub ends : (without : List ℕ) → HasMarks without new → ending without work [] old ≡ new
 
--- The innermost line has ended, or, out of memory, what is left of it is the same.
-abbrev pub EndsOrKeeps : {V E : Type 0} → Result V E → SessionState → SessionState → Type 0
-EndsOrKeeps (Ok done) old new = Ends (top_work old.frames) old.journal new.journal × (new.frames ≡ around old.frames) × (new.tickets ≡ old.tickets)
-EndsOrKeeps (Err e) old new = KeepsLine (top_work old.frames) old.journal new.journal × (new.frames ≡ old.frames) × (new.tickets ≡ old.tickets)
+-- The innermost line has ended.
+pub record EndsTop (old new : SessionState) : Type 0 where
+  pub ends : Ends (top_work old.frames) old.journal new.journal
+  pub frames : new.frames ≡ around old.frames
+  pub tickets : new.tickets ≡ old.tickets
+
+-- What is left of the innermost line is the same.
+pub record KeepsTop (old new : SessionState) : Type 0 where
+  pub keeps : KeepsLine (top_work old.frames) old.journal new.journal
+  pub frames : new.frames ≡ old.frames
+  pub tickets : new.tickets ≡ old.tickets
 
 -- Calls were settled, and nothing else.
 pub record OnlySettles (old new : List Event) : Type 0 where
@@ -172,3 +179,7 @@ abbrev pub PassesOver : {V E : Type 0} → Result V E → Order → SessionState
 PassesOver (Ok done) order old new = (new ≡ record old { tickets = new.tickets }) × (length new.tickets ≡ number_after order (length old.tickets))
     × ((k : ℕ) → slice_index_or new.tickets k None ≡ slice_index_or old.tickets k None)
 PassesOver (Err e) order old new = new ≡ old
+
+-- what becomes of the lines under an `idle`
+abbrev pub idle_work : SessionState → Work
+idle_work session = if session.closed || top_under_ask session.frames then Beside else Checks 0

@@ -10,7 +10,9 @@ ghost use Rattle.schedule_player.specs.Owed.{CanPost, CanPlay};
 ghost use Rattle.schedule_player.specs.Reporting.{KeepsTold};
 ghost use Rattle.schedule_player.specs.Around.{ComesAt, LeadsTo, around, first_of, onto, top_work, with_work};
 ghost use Rattle.schedule_player.specs.InStep.{InStep, ChecksInStep};
-ghost use Rattle.schedule_player.specs.Steps.{IsPlaced, PlaysOrder, Ends, EndsOrKeeps, EndsTo, IsUnder, Reaches, HasCome, PlaysLine, PassesOver};
+ghost use Rattle.schedule_player.specs.Steps.{IsPlaced, PlaysOrder, Ends, EndsTop, KeepsTop, IsOfChecks, EndsTo, IsUnder, Reaches, HasCome, PlaysLine, PassesOver, idle_work};
+ghost use Rattle.ask_history.specs.Closing.{after_close};
+ghost use Rattle.ask_history.specs.Engine.{stopped_state};
 ghost use Rattle.schedule_player.specs.declared.frames.Work.TheVariants.{Passed};
 
 use crate::frames::Work;
@@ -20,6 +22,22 @@ use pc_terms::NoMemory;
 use report_hub::Hub;
 
 impl Session {
+    // Ends the innermost line, one of checks: the files that are due are checked.
+    fn finish_checks<N: Engine>(&mut self, engine: &mut N, hub: &mut Hub) -> Result<(), NoMemory>
+        requires in_step { InStep N.answer_of N.problems_of self.old (N.state engine.old) }
+        requires checks { ChecksInStep N.problems_of self.old (N.state engine.old) }
+        requires line { IsOfChecks (top_work self.old.frames) }
+        ensures in_step { InStep N.answer_of N.problems_of self.new (N.state engine.new) }
+        ensures checks { OnOk result (ChecksInStep N.problems_of self.new (N.state engine.new)) }
+        ensures ends { OnOk result (EndsTop self.old self.new) }
+        ensures keeps { OnErr result (KeepsTop self.old self.new) }
+        ensures told { KeepsTold (of_box told) (of_box faults) (findings N.problems_of self.old.journal) (reporters_of hub.old) (findings N.problems_of self.new.journal) (reporters_of hub.new) }
+    {
+        self.check_all(engine, hub)?;
+        self.pop();
+        Ok(())
+    }
+
     // Ends the innermost line: the lines under it are all played.
     fn finish<N: Engine>(
         &mut self,
@@ -30,21 +48,18 @@ impl Session {
         requires in_step { InStep N.answer_of N.problems_of self.old (N.state engine.old) }
         requires checks { ChecksInStep N.problems_of self.old (N.state engine.old) }
         requires top { top_work self.old.frames ≡ work }
-        requires some { self.old.frames ≢ [] }
         ensures in_step { InStep N.answer_of N.problems_of self.new (N.state engine.new) }
         ensures checks { OnOk result (ChecksInStep N.problems_of self.new (N.state engine.new)) }
-        ensures ends { EndsOrKeeps result self.old self.new }
+        ensures ends { OnOk result (EndsTop self.old self.new) }
+        ensures keeps { OnErr result (KeepsTop self.old self.new) }
         ensures told { KeepsTold (of_box told) (of_box faults) (findings N.problems_of self.old.journal) (reporters_of hub.old) (findings N.problems_of self.new.journal) (reporters_of hub.new) }
     {
         match work {
+            Work::Checks { .. } => return self.finish_checks(engine, hub),
+            Work::Check { .. } => return self.finish_checks(engine, hub),
             Work::Ask { ticket, is_fed, .. } => self.finish_ask(engine, ticket, is_fed),
-            Work::Checks { .. } | Work::Check { .. } => {
-                self.check_all(engine, hub)?;
-                self.pop();
-            }
-            Work::Beside | Work::Passed => {
-                self.pop();
-            }
+            Work::Beside => self.pop(),
+            Work::Passed => self.pop(),
         }
         Ok(())
     }
@@ -116,7 +131,9 @@ impl Session {
     }
 
     // Files are checked where no ask is open and the session is not shut down.
-    fn play_idle(&mut self) {
+    fn play_idle(&mut self)
+        ensures { self.new ≡ record self.old { frames = with_work (idle_work self.old) self.old.frames } }
+    {
         if self.is_closed() || self.is_under_ask() {
             self.set_work(Work::Beside);
         } else {
@@ -124,7 +141,10 @@ impl Session {
         }
     }
 
-    fn play_close<N: Engine>(&mut self, engine: &mut N) {
+    fn play_close<N: Engine>(&mut self, engine: &mut N)
+        ensures session { self.new ≡ record self.old { journal = after_close self.old.journal; closed = true } }
+        ensures engine { N.state engine.new ≡ stopped_state (N.state engine.old) }
+    {
         engine.stop();
         self.close();
     }
