@@ -28,7 +28,7 @@ under_with work [] level h = h
 under_with work (frame ∷ frames) level h = h
 
 -- one way to say what is left of a line before others
-resume_under : (without : List ℕ) (frame : Frame) (frames : List Frame) (number : ℕ) (line : Line) (inner rest : Nested) (journal : _) → frame.level < line.level
+pub resume_under : (without : List ℕ) (frame : Frame) (frames : List Frame) (number : ℕ) (line : Line) (inner rest : Nested) (journal : _) → frame.level < line.level
     → resume without (frame ∷ frames) (Then number line inner rest) journal
     ≡ resume without frames (others frame.level rest) (ending without frame.work (parts_of without (Then number line inner (deeper frame.level rest))) journal)
 resume_under without frame frames number line inner rest journal h =

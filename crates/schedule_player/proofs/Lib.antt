@@ -12,6 +12,10 @@ pub mod Checking
 pub mod Tellings
 pub mod CheckRuns
 pub mod Arrivals
+pub mod OnlySettling
+pub mod Orders
+pub mod LinePlays
+pub mod Marks
 pub mod Transitions
 pub mod Resumes
 pub mod Openings

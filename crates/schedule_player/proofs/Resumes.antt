@@ -47,7 +47,7 @@ same_test m n h = eq-eqb m n h
 
 module _ (without : List ℕ) where
   -- in a check that has begun
-  in_check_one : (number check : ℕ) (one : Play) (parts : List Part) (journal : List Event) → number ≡ check
+  pub in_check_one : (number check : ℕ) (one : Play) (parts : List Part) (journal : List Event) → number ≡ check
       → in_check number (before check one parts) journal ≡ in_check number parts (one journal)
   in_check_one number check one [] journal same =
       ap (λ b. if b then play_checks (number + 1) [] (check_done (one journal)) else play_checks (number + 1) (record { check = check; play = one } ∷ []) (check_done journal)) (same_test number check same)

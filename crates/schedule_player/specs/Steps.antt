@@ -123,6 +123,11 @@ pub record EndsTo (level : ℕ) (old new : SessionState) : Type 0 where
   pub leads : (lines : List Line) (rest : Nested) → ComesAt level rest → LeadsTo lines old.frames rest old.journal → LeadsTo lines new.frames rest new.journal
   pub tickets : new.tickets ≡ old.tickets
 
+-- What is left is the same, where this line is the next.
+pub record KeepsNext (line : Line) (old new : SessionState) : Type 0 where
+  pub leads : (lines : List Line) (rest : Nested) → LeadsTo lines old.frames (over (length old.tickets) line rest) old.journal
+      → LeadsTo lines new.frames (over (length old.tickets) line rest) new.journal
+
 -- A line was played: what is left are the lines after it.
 pub record PlaysLine (line : Line) (old new : SessionState) : Type 0 where
   pub leads : (lines : List Line) (rest : Nested) → LeadsTo lines old.frames (over (length old.tickets) line rest) old.journal → LeadsTo lines new.frames rest new.journal

@@ -2,6 +2,7 @@
 
 ghost use Rattle.std.specs.Prelude.{◌≡◌, ℕ, ◌<◌, ◌||◌, if◌then◌else◌, ◌++◌, ◌∷◌, [], length, Some, None, Ok, Err, true, false, IfSome, IfNone, OnOk, OnErr};
 ghost use Rattle.ask_history.specs.Sources.{is_mutation};
+ghost use Rattle.ask_history.specs.Journal.{findings};
 ghost use Rattle.ask_history.specs.Engine.{IsOnTop, is_staged, is_open_in, settled_state};
 ghost use Rattle.ask_history.specs.declared.engine.Effect.TheVariants.{Dropped};
 ghost use Rattle.ask_history.specs.declared.calls.Call.{Call};
@@ -184,6 +185,7 @@ impl Session {
         ensures checks { ChecksInStep N.problems_of self.new (N.state engine.new) }
         ensures plays { OnOk result (PlaysOrder (order.Call call) self.old self.new) }
         ensures err { OnErr result (self.new ≡ self.old) }
+        ensures found { findings N.problems_of self.new.journal ≡ findings N.problems_of self.old.journal }
     {
         let mutates = is_mutation(&call);
         let ticket = self.accept(call)?;

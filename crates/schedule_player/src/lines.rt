@@ -10,7 +10,7 @@ ghost use Rattle.schedule_player.specs.Owed.{CanPost, CanPlay};
 ghost use Rattle.schedule_player.specs.Reporting.{KeepsTold};
 ghost use Rattle.schedule_player.specs.Around.{ComesAt, LeadsTo, around, first_of, onto, top_work, with_work};
 ghost use Rattle.schedule_player.specs.InStep.{InStep, ChecksInStep};
-ghost use Rattle.schedule_player.specs.Steps.{IsPlaced, PlaysOrder, Ends, EndsTop, KeepsTop, IsOfChecks, EndsTo, IsUnder, Reaches, HasCome, PlaysLine, PassesOver, idle_work};
+ghost use Rattle.schedule_player.specs.Steps.{IsPlaced, PlaysOrder, Ends, EndsTop, KeepsTop, IsOfChecks, EndsTo, IsUnder, Reaches, HasCome, KeepsNext, PlaysLine, PassesOver, idle_work};
 ghost use Rattle.ask_history.specs.Closing.{after_close};
 ghost use Rattle.ask_history.specs.Engine.{stopped_state};
 ghost use Rattle.schedule_player.specs.declared.frames.Work.TheVariants.{Passed};
@@ -33,9 +33,13 @@ impl Session {
         ensures keeps { OnErr result (KeepsTop self.old self.new) }
         ensures told { KeepsTold (of_box told) (of_box faults) (findings N.problems_of self.old.journal) (reporters_of hub.old) (findings N.problems_of self.new.journal) (reporters_of hub.new) }
     {
-        self.check_all(engine, hub)?;
-        self.pop();
-        Ok(())
+        match self.check_all(engine, hub) {
+            Ok(()) => {
+                self.pop();
+                Ok(())
+            }
+            Err(none) => Err(none),
+        }
     }
 
     // Ends the innermost line: the lines under it are all played.
@@ -107,7 +111,8 @@ impl Session {
     {
         self.reach(engine, hub, check)?;
         self.wait_in_ask(engine, u64::from(turn));
-        self.wait_in_check(engine, u64::from(turn))
+        self.wait_in_check(engine, u64::from(turn))?;
+        Ok(())
     }
 
     // Plays a call line. What stands under it is played in its place where it is refused.
@@ -120,6 +125,7 @@ impl Session {
         ensures checks { ChecksInStep N.problems_of self.new (N.state engine.new) }
         ensures plays { OnOk result (PlaysOrder (order.Call call) self.old self.new) }
         ensures err { OnErr result (self.new ≡ self.old) }
+        ensures found { findings N.problems_of self.new.journal ≡ findings N.problems_of self.old.journal }
     {
         if self.is_closed() {
             self.refuse()?;
@@ -159,6 +165,7 @@ impl Session {
         ensures checks { ChecksInStep N.problems_of self.new (N.state engine.new) }
         ensures plays { OnOk result (PlaysOrder order self.old self.new) }
         ensures err { OnErr result (self.new ≡ self.old) }
+        ensures found { findings N.problems_of self.new.journal ≡ findings N.problems_of self.old.journal }
     {
         match order {
             Order::Call(call) => return self.play_call(engine, call),
@@ -186,13 +193,24 @@ impl Session {
         engine: &mut N,
         level: u32,
         order: Order,
-    ) -> Result<(), NoMemory> {
+    ) -> Result<(), NoMemory>
+        requires in_step { InStep N.answer_of N.problems_of self.old (N.state engine.old) }
+        requires checks { ChecksInStep N.problems_of self.old (N.state engine.old) }
+        requires can { CanPlay order }
+        ensures in_step { InStep N.answer_of N.problems_of self.new (N.state engine.new) }
+        ensures checks { OnOk result (ChecksInStep N.problems_of self.new (N.state engine.new)) }
+        ensures plays { OnOk result ((line : Line) → line.level ≡ level → line.order ≡ order → IsUnder self.old.frames level → HasCome (top_work self.old.frames) line.check → PlaysLine line self.old self.new) }
+        ensures err { OnErr result (self.new ≡ self.old) }
+        ensures found { findings N.problems_of self.new.journal ≡ findings N.problems_of self.old.journal }
+    {
         self.push(level)?;
-        let played = self.play_order(engine, order);
-        if played.is_err() {
-            self.pop();
+        match self.play_order(engine, order) {
+            Ok(()) => Ok(()),
+            Err(none) => {
+                self.pop();
+                Err(none)
+            }
         }
-        played
     }
 
     /// Plays a line where it stands.
@@ -201,7 +219,16 @@ impl Session {
         engine: &mut N,
         hub: &mut Hub,
         line: Line,
-    ) -> Result<(), NoMemory> {
+    ) -> Result<(), NoMemory>
+        requires in_step { InStep N.answer_of N.problems_of self.old (N.state engine.old) }
+        requires checks { ChecksInStep N.problems_of self.old (N.state engine.old) }
+        requires can { CanPlay line.order }
+        ensures in_step { InStep N.answer_of N.problems_of self.new (N.state engine.new) }
+        ensures checks { OnOk result (ChecksInStep N.problems_of self.new (N.state engine.new)) }
+        ensures plays { OnOk result (PlaysLine line self.old self.new) }
+        ensures keeps { OnErr result (KeepsNext line self.old self.new) }
+        ensures told { KeepsTold (of_box told) (of_box faults) (findings N.problems_of self.old.journal) (reporters_of hub.old) (findings N.problems_of self.new.journal) (reporters_of hub.new) }
+    {
         let Line {
             level,
             check,

@@ -2,6 +2,8 @@ use Rattle.std.proofs.Common.{◌≡◌, None, false, true, ap, sym, ◌∙◌, 
 use Rattle.ask_history.specs.Sources.{is_mutation}
 use Rattle.ask_history.specs.declared.events.Mark.TheVariants as mark
 use Rattle.ask_history.specs.declared.answers.Answer.TheVariants as answer
+use Rattle.ask_history.specs.Journal.{findings}
+use Rattle.schedule_player.proofs.Pushing.{findings-push}
 use Rattle.schedule_player.specs.SessionState.{SessionState}
 use Rattle.schedule_player.proofs.Openings.{same_call, new_ticket, same_names, few_there, ask_in_step, ask_checks, ask_plays, open_there, next_there, unmade_in_step, unmade_checks, unmade_plays, made_in_step, made_checks, made_plays}
 use Rattle.schedule_player.proofs.session.Session.play_accepted.Goals as goal
@@ -92,3 +94,22 @@ pub returns-in-NoMemory-2-clause-plays : goal.returns-in-NoMemory-2-clause-plays
 returns-in-NoMemory-2-clause-plays g c =
     ask_plays _ _ _ _ c.requires.in_step c.requires.live _ _ _ _ c.in_ok-ticket.ensures.ok c.in_ok-ticket.ensures.ticket c.call.ensures.call
     (ap is_mutation (same_call _ _ _ _ c.requires.in_step c.requires.live _ _ _ _ c.in_ok-ticket.ensures.ok c.in_ok-ticket.ensures.ticket c.call.ensures.call) ∙ sym c.is_mutation-mutates.ensures ∙ c.if-mutates.false) c.requires.placed false _ c.set_work-in-NoMemory-2.ensures
+
+pub returns-in-Taken-clause-found : goal.returns-in-Taken-clause-found
+returns-in-Taken-clause-found g c =
+    ap {A = SessionState} (λ s. findings g.N.Engine.problems_of s.journal) c.set_work.ensures ∙ ap {A = SessionState} (λ s. findings g.N.Engine.problems_of s.journal) c.in_ok-ticket.ensures.ok ∙ findings-push g.N.Engine.problems_of c.args.self.now.journal _
+
+pub returns-in-NoMemory-2-clause-found : goal.returns-in-NoMemory-2-clause-found
+returns-in-NoMemory-2-clause-found g c =
+    ap {A = SessionState} (λ s. findings g.N.Engine.problems_of s.journal) c.set_work-in-NoMemory-2.ensures ∙ ap {A = SessionState} (λ s. findings g.N.Engine.problems_of s.journal) c.in_ok-ticket.ensures.ok ∙ findings-push g.N.Engine.problems_of c.args.self.now.journal _
+
+pub returns-in-NoMemory-clause-found : goal.returns-in-NoMemory-clause-found
+returns-in-NoMemory-clause-found g c =
+    ap {A = SessionState} (λ s. findings g.N.Engine.problems_of s.journal) c.settle.ensures.session ∙ findings-push g.N.Engine.problems_of c.accept.new.self.journal _
+    ∙ ap {A = SessionState} (λ s. findings g.N.Engine.problems_of s.journal) c.in_ok-ticket.ensures.ok ∙ findings-push g.N.Engine.problems_of c.args.self.now.journal _
+
+pub returns-in-Staged-clause-found : goal.returns-in-Staged-clause-found
+returns-in-Staged-clause-found g c =
+    ap {A = SessionState} (λ s. findings g.N.Engine.problems_of s.journal) c.forget_found.ensures
+    ∙ ap {A = SessionState} (λ s. findings g.N.Engine.problems_of s.journal) c.settle-effect.ensures.session ∙ findings-push g.N.Engine.problems_of c.accept.new.self.journal _
+    ∙ ap {A = SessionState} (λ s. findings g.N.Engine.problems_of s.journal) c.in_ok-ticket.ensures.ok ∙ findings-push g.N.Engine.problems_of c.args.self.now.journal _
