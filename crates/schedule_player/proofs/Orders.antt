@@ -1,13 +1,13 @@
 -- Cancels, shutdowns and idles are played.
-use Rattle.std.proofs.Common.{◌≡◌, ℕ, zero, suc, ◌<◌, ◌+◌, Bool, true, false, not, ◌||◌, ◌&&◌, ◌==◌, nat_lt, if◌then◌else◌, List, [], ◌∷◌, ◌++◌, length, map, All, Option, Some, None, is_some, unwrap_or, IsTrue, refl, sym, ap, ◌∙◌, subst, arith, true≢false}
+use Rattle.std.proofs.Common.{◌≡◌, ℕ, zero, suc, ◌<◌, ◌+◌, ◌-◌, Bool, true, false, not, ◌||◌, ◌&&◌, ◌==◌, nat_lt, if◌then◌else◌, List, [], ◌∷◌, ◌++◌, length, map, All, Option, Some, None, is_some, unwrap_or, IsTrue, refl, sym, ap, ◌∙◌, subst, arith, true≢false}
 use Rattle.std.specs.List.{list_any, list_all}
 use Rattle.std.specs.Option.{option_or}
 use Rattle.std.proofs.Math.Bool.{or-false}
-use Rattle.std.proofs.lemmas.Bool.{and_parts, and_right, eqb-true, eq-eqb, or_parts, or_from}
+use Rattle.std.proofs.lemmas.Bool.{and_parts, and_right, eqb-true, eq-eqb, or_parts, or_from, or_right}
 use Rattle.std.proofs.lemmas.Bool.Decides.{nat_tests}
 use Rattle.std.proofs.lemmas.List.{append-nil}
 use Rattle.pc_terms.specs.declared.problems.Problem.{Problem}
-use Rattle.ask_history.specs.Sources.{Bytes, Sources, unchecked}
+use Rattle.ask_history.specs.Sources.{Bytes, Sources, unchecked, some_of}
 use Rattle.ask_history.specs.Journal.{accepted, call_of, call_under, first_of_two, ticket_of, ticket_under, tickets, is_close, is_closed, is_cancelled, is_settled, is_open, all_settled, after, checked, findings}
 use Rattle.ask_history.specs.Checks.{due, check_begins, check_done}
 use Rattle.ask_history.specs.Schedule.{Part, all_of, cancel_ticket, play_checks, play_line}
@@ -21,7 +21,7 @@ use Rattle.ask_history.proofs.Pushes.{list_any-push}
 use Rattle.ask_history.proofs.Accepted.{accepted_below}
 use Rattle.ask_history.proofs.Underway.{Holds, is_among}
 use Rattle.ask_history.proofs.Plays.{keeps-cancel}
-use Rattle.schedule_player.specs.Around.{HasMarks, ending, asks_of, ask_onto, fed_of, with_work, onto, top_under_ask, is_ask, top_work, AreStacked}
+use Rattle.schedule_player.specs.Around.{HasMarks, ending, asks_of, ask_onto, fed_of, with_work, onto, around, top_under_ask, is_ask, top_work, AreStacked}
 use Rattle.schedule_player.specs.Steps.{IsPlaced, PlaysOrder, IsAccepted, idle_work}
 use Rattle.schedule_player.specs.SessionState.{SessionState}
 use Rattle.schedule_player.specs.InStep.{IsAsked, IsNoted, IsServed, InStep, IsAhead, ChecksInStep}
@@ -155,6 +155,104 @@ wait_plays tag old placed = record { work = Passed; frames = placed_passed old.f
 idle_over : (parts : List Part) (journal : List Event) → check_begins journal ≡ false → play_checks 0 parts journal ≡ all_of parts journal
 idle_over [] journal h = over (length (due journal)) journal h
 idle_over (part ∷ parts) journal h =
-
-    (λ j. if check_begins (over part.check journal h j) then play_checks (part.check + 1) parts (check_done (part.play (over part.check journal h j))) else all_of (part ∷ parts) (over part.check journal h j))
+    (λ j. if check_begins (over (part.check - 0) journal h j) then play_checks (part.check + 1) parts (check_done (part.play (over (part.check - 0) journal h j))) else all_of (part ∷ parts) (over (part.check - 0) journal h j))
     ∙ ap (λ b. if b then play_checks (part.check + 1) parts (check_done (part.play journal)) else all_of (part ∷ parts) journal) h
+
+none_by : (w : Work) (asks : List ℕ) → is_ask w ≡ false → ask_onto w asks ≡ asks
+none_by (Ask ticket is_fed turns) asks h = absurd (true≢false h)
+none_by (Checks next) asks h = refl
+none_by (Check number turns) asks h = refl
+none_by Beside asks h = refl
+none_by Passed asks h = refl
+
+no_asks : (frames : List Frame) → AreStacked frames → top_under_ask frames ≡ false → asks_of frames ≡ []
+no_asks [] stacked h = refl
+no_asks (frame ∷ frames) stacked h =
+    let parts = or_parts (top_under_ask frames) (is_ask frame.work) (sym stacked.1 ∙ h) in
+    none_by frame.work (asks_of frames) parts.1 ∙ no_asks frames stacked.2 parts.0
+
+some_by : (w : Work) (asks : List ℕ) → is_ask w ≡ true → (t : ℕ) × (is_among (ask_onto w asks) t ≡ true)
+some_by (Ask ticket is_fed turns) asks h = (ticket, ap (λ b. b || is_among asks ticket) (eq-eqb ticket ticket refl))
+some_by (Checks next) asks h = absurd (true≢false (sym h))
+some_by (Check number turns) asks h = absurd (true≢false (sym h))
+some_by Beside asks h = absurd (true≢false (sym h))
+some_by Passed asks h = absurd (true≢false (sym h))
+
+more_by : (w : Work) (asks : List ℕ) (t : ℕ) → is_among asks t ≡ true → is_among (ask_onto w asks) t ≡ true
+more_by (Ask ticket is_fed turns) asks t h = or_right (ticket == t) _ h
+more_by (Checks next) asks t h = h
+more_by (Check number turns) asks t h = h
+more_by Beside asks t h = h
+more_by Passed asks t h = h
+
+some_asks : (frames : List Frame) → AreStacked frames → top_under_ask frames ≡ true → (t : ℕ) × (is_among (asks_of frames) t ≡ true)
+some_asks [] stacked h = absurd (true≢false (sym h))
+some_asks (frame ∷ frames) stacked h = by (top_under_ask frames) refl (some_asks frames stacked.2)
+  where
+    by : (b : Bool) → top_under_ask frames ≡ b → (top_under_ask frames ≡ true → (t : ℕ) × (is_among (asks_of frames) t ≡ true)) → (t : ℕ) × (is_among (ask_onto frame.work (asks_of frames)) t ≡ true)
+    by true e next = let found = next e in (found.0, more_by frame.work (asks_of frames) found.0 found.1)
+    by false e next = some_by frame.work (asks_of frames) (ap (λ b. b || is_ask frame.work) (sym e) ∙ sym stacked.1 ∙ h)
+
+unsettled_some : (events : List Event) (settled : ℕ → Bool) (t : ℕ) → is_some (call_of events t) ≡ true → settled t ≡ false → list_all settled (tickets events) ≡ false
+unsettled_some [] settled t h u = absurd (true≢false (sym h))
+unsettled_some (Accept ticket client tag call ∷ events) settled t h u = by (ticket == t) refl (unsettled_some events settled t)
+  where
+    left_none : (b c : Bool) → b ≡ false → (b && c) ≡ false
+    left_none true c e = absurd (true≢false e)
+    left_none false c e = refl
+
+    by : (b : Bool) → (ticket == t) ≡ b → (is_some (call_of events t) ≡ true → settled t ≡ false → list_all settled (tickets events) ≡ false) → (settled ticket && list_all settled (tickets events)) ≡ false
+    by true e next = left_none (settled ticket) (list_all settled (tickets events)) (ap settled (eqb-true ticket t e) ∙ u)
+    by false e next = and_right (settled ticket) _ (next (sym (ap (λ b. is_some (first_of_two (if b then Some call else None) (call_of events t))) e) ∙ h) u)
+unsettled_some (Cancel ticket ∷ events) settled t h u = unsettled_some events settled t h u
+unsettled_some (Close ∷ events) settled t h u = unsettled_some events settled t h u
+unsettled_some (Settle ticket m ∷ events) settled t h u = unsettled_some events settled t h u
+unsettled_some (Checked file ∷ events) settled t h u = unsettled_some events settled t h u
+
+module _ (answer_of : Sources → Call → Answer) (problems_of : Sources → Bytes → List Problem) (session : SessionState) (state : EngineState)
+  (step : InStep answer_of problems_of session state) (placed : IsPlaced session.frames) where
+  -- no check begins where the session is shut down or an ask is open
+  no_begin : (session.closed || top_under_ask session.frames) ≡ true → check_begins session.journal ≡ false
+  no_begin h = by (is_closed session.journal) refl
+    where
+      by : (b : Bool) → is_closed session.journal ≡ b → check_begins session.journal ≡ false
+      by true e = ap (λ b. (not b && all_settled session.journal) && some_of (due session.journal)) e
+      by false e =
+          let under : top_under_ask session.frames ≡ true = sym (ap (λ b. b || top_under_ask session.frames) (step.closed ∙ e)) ∙ h in
+          let found = some_asks session.frames step.stacked under in
+          let open_ : is_open session.journal found.0 ≡ true = step.holds.opens found.0 ∙ (λ j. not (e j) && found.1 j) in
+          let parts = and_parts (is_some (call_of session.journal found.0)) (not (is_settled session.journal found.0)) open_ in
+          let unsettled : all_settled session.journal ≡ false = unsettled_some session.journal (is_settled session.journal) found.0 parts.0 (not_true (is_settled session.journal found.0) parts.1) in
+          ap (λ b. (not (is_closed session.journal) && b) && some_of (due session.journal)) unsettled
+          ∙ ap (λ b. b && some_of (due session.journal)) (and_right (not (is_closed session.journal)) false refl)
+        where
+          not_true : (b : Bool) → not b ≡ true → b ≡ false
+          not_true true k = sym k
+          not_true false k = refl
+
+  top_passed : top_work session.frames ≡ Passed
+  top_passed = ap top_work placed.is
+
+  idle_replaces : (b : Bool) → (session.closed || top_under_ask session.frames) ≡ b → Replaces (top_work session.frames) (if b then Beside else Checks 0) (asks_of (around session.frames))
+  idle_replaces true e = subst (λ w. Replaces w Beside (asks_of (around session.frames))) (sym top_passed) (record { onto = refl; fed = λ ts. refl; stands = tt; is = refl })
+  idle_replaces false e =
+      let none : asks_of session.frames ≡ [] = no_asks session.frames step.stacked (or_parts session.closed (top_under_ask session.frames) e).1 in
+      let below : asks_of (around session.frames) ≡ [] = ap (λ fs. asks_of (around fs)) placed.is ∙ sym (ap asks_of placed.is) ∙ none in
+      subst (λ w. Replaces w (Checks 0) (asks_of (around session.frames))) (sym top_passed) (record { onto = refl; fed = λ ts. refl; stands = below; is = refl })
+
+  pub idle_in_step : InStep answer_of problems_of (record session { frames = with_work (idle_work session) session.frames }) state
+  idle_in_step = rework_in_step answer_of problems_of session state (idle_work session) step (idle_replaces (session.closed || top_under_ask session.frames) refl)
+
+  pub idle_plays : PlaysOrder order.Idle session (record session { frames = with_work (idle_work session) session.frames })
+  idle_plays = record {
+    work = idle_work session;
+    frames = refl;
+    number = refl;
+    marks = λ without h. h;
+    plays = λ without parts h. by without parts (session.closed || top_under_ask session.frames) refl;
+  }
+    where
+      by : (without : List ℕ) (parts : List Part) (b : Bool) → (session.closed || top_under_ask session.frames) ≡ b
+          → play_checks 0 parts session.journal ≡ ending without (if b then Beside else Checks 0) parts session.journal
+      by without parts true e = idle_over parts session.journal (no_begin e)
+      by without parts false e = refl
