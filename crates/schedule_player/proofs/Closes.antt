@@ -102,7 +102,6 @@ module _ (answer_of : Sources → Call → Answer) (problems_of : Sources → By
       not_true false k = refl
 
       by : (b : Bool) → is_open journal n ≡ b → AllClosed (if b then n ∷ [] else [])
-      unfolding AllClosed
       by true e =
           (ap (λ o. unwrap_or o answer.Closed) (none_yet answer_of n journal (not_true (is_settled journal n) (and_parts (is_some (call_of journal n)) (not (is_settled journal n)) e).1)), tt)
       by false e = tt

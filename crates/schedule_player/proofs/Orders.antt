@@ -134,7 +134,7 @@ cancel_marks without (Some ticket) journal h = by (is_open journal ticket && not
     by false k = k
 
 -- the line stays as it was placed
-placed_passed : (frames : List Frame) → IsPlaced frames → frames ≡ with_work Passed frames
+pub placed_passed : (frames : List Frame) → IsPlaced frames → frames ≡ with_work Passed frames
 placed_passed frames placed =
     placed.is ∙ (λ j. record { level = placed.level; under_ask = sym (or-false (top_under_ask placed.around)) j; work = Passed } ∷ placed.around) ∙ sym (ap (with_work Passed) placed.is)
 

@@ -4,7 +4,7 @@ use Rattle.std.specs.List.{list_all}
 use Rattle.ask_history.specs.Sources.{Bytes, Sources, some_of}
 use Rattle.ask_history.specs.Journal.{accepted, call_of, reply}
 use Rattle.ask_history.specs.Checks.{due, check_begins, checks_alone}
-use Rattle.ask_history.specs.Nested.{Nested, Then, over, number_after}
+use Rattle.ask_history.specs.Nested.{Nested, End, Then, over, number_after}
 use Rattle.ask_history.specs.Schedule.{Part, play_line}
 use Rattle.ask_history.specs.declared.calls.Call.{Call}
 use Rattle.ask_history.specs.declared.answers.Answer.{Answer}
@@ -188,3 +188,15 @@ PassesOver (Err e) order old new = new ≡ old
 -- what becomes of the lines under an `idle`
 abbrev pub idle_work : SessionState → Work
 idle_work session = if session.closed || top_under_ask session.frames then Beside else Checks 0
+
+-- ---- the whole
+
+-- What is left of these lines comes to the journal of the schedule.
+pub record IsUnderway (lines : List Line) (session : SessionState) : Type 0 where
+  pub rest : Nested
+  pub leads : LeadsTo lines session.frames rest session.journal
+
+-- Nothing is left of these lines.
+pub record IsPlayed (lines : List Line) (session : SessionState) : Type 0 where
+  pub none : session.frames ≡ []
+  pub leads : LeadsTo lines session.frames End session.journal

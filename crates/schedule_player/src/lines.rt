@@ -236,12 +236,28 @@ impl Session {
             order,
         } = line;
         self.finish_to(engine, hub, level)?;
+        if self.is_passing_over() {
+            self.pass_over(order)?;
+            return Ok(());
+        }
+        self.arrive(engine, hub, check, turn)?;
+        match self.play_at(engine, level, order) {
+            Ok(()) => Ok(()),
+            Err(none) => Err(none),
+        }
+    }
+
+    // Whether the lines under the innermost one are passed over.
+    fn is_passing_over(&self) -> bool
+        ensures passed { result ≡ true → top_work self.now.frames ≡ Passed }
+        ensures other { result ≡ false → top_work self.now.frames ≢ Passed }
+    {
         match self.top_work() {
-            Work::Passed => self.pass_over(order),
-            _ => {
-                self.arrive(engine, hub, check, turn)?;
-                self.play_at(engine, level, order)
-            }
+            Work::Ask { .. } => false,
+            Work::Checks { .. } => false,
+            Work::Check { .. } => false,
+            Work::Beside => false,
+            Work::Passed => true,
         }
     }
 }

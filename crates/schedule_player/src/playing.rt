@@ -1,4 +1,8 @@
-ghost use Rattle.std.specs.Prelude.{◌≡◌};
+ghost use Rattle.std.specs.Prelude.{◌≡◌, [], OnOk};
+ghost use Rattle.schedule_player.specs.SessionState.{fresh_session};
+ghost use Rattle.schedule_player.specs.InStep.{InStep, ChecksInStep};
+ghost use Rattle.schedule_player.specs.Steps.{OnlySettles, IsPlayed, IsUnderway};
+ghost use Rattle.schedule_player.specs.Reporting.{KeepsTold};
 ghost use Rattle.ask_history.specs.Engine.{fresh_state};
 ghost use Rattle.ask_history.specs.Journal.{findings};
 ghost use Rattle.report_hub.specs.Hub.{reporters_of, of_box, OfEach, IsToldMost};
@@ -13,21 +17,36 @@ use report_hub::Hub;
 use std::alloc::Global;
 
 impl Session {
-    // Plays all lines.
+    // Plays all lines on a fresh session.
     fn play_lines<N: Engine>(
         &mut self,
         engine: &mut N,
         hub: &mut Hub,
         lines: Row<Line>,
-    ) -> Result<(), NoMemory> {
+    ) -> Result<(), NoMemory>
+        requires fresh { self.old ≡ fresh_session }
+        requires in_step { InStep N.answer_of N.problems_of self.old (N.state engine.old) }
+        requires checks { ChecksInStep N.problems_of self.old (N.state engine.old) }
+        requires can { CanPlayAll lines }
+        ensures in_step { InStep N.answer_of N.problems_of self.new (N.state engine.new) }
+        ensures whole { OnOk result (IsPlayed lines self.new) }
+        ensures cut { IsUnderway lines self.new }
+        ensures told { KeepsTold (of_box told) (of_box faults) (findings N.problems_of self.old.journal) (reporters_of hub.old) (findings N.problems_of self.new.journal) (reporters_of hub.new) }
+    {
         for line in lines.into_vec() {
             self.play_line(engine, hub, line)?;
         }
-        self.finish_to(engine, hub, 0)
+        self.finish_to(engine, hub, 0)?;
+        Ok(())
     }
 
     // Settles the open asks as out of memory, the innermost first.
-    fn give_up<N: Engine>(&mut self, engine: &mut N) {
+    fn give_up<N: Engine>(&mut self, engine: &mut N)
+        requires in_step { InStep N.answer_of N.problems_of self.old (N.state engine.old) }
+        ensures in_step { InStep N.answer_of N.problems_of self.new (N.state engine.new) }
+        ensures frames { self.new.frames ≡ [] }
+        ensures settles { OnlySettles self.old.journal self.new.journal }
+    {
         while let Some(frame) = self.top() {
             match frame.work {
                 Work::Ask { ticket, is_fed, .. } => self.give_up_ask(engine, ticket, is_fed),
