@@ -1,16 +1,13 @@
-use Rattle.std.proofs.Common.{◌≡◌, [], OnOk, ℕ, ◌+◌, ◌-◌, ◌*◌, ◌<◌, ◌≤◌, length}
-use Rattle.schedule_player.specs.SessionState.{fresh_session}
-use Rattle.schedule_player.specs.InStep.{InStep, ChecksInStep}
-use Rattle.schedule_player.specs.Steps.{OnlySettles, IsPlayed, IsUnderway}
-use Rattle.schedule_player.specs.Reporting.{KeepsTold}
-use Rattle.ask_history.specs.Engine.{fresh_state}
-use Rattle.ask_history.specs.Journal.{findings}
-use Rattle.report_hub.specs.Hub.{reporters_of, of_box, OfEach, IsToldMost}
-use Rattle.schedule_player.specs.Owed.{CanPlayAll, PlayOwes}
+use Rattle.std.proofs.Common.{length}
+use Rattle.schedule_player.specs.InStep.{InStep}
+use Rattle.schedule_player.specs.Steps.{OnlySettles}
 use Rattle.schedule_player.proofs.session.Session.give_up.Given as goal
 
 abbrev pub invariant-loop-frame : goal.invariant-loop-frame
-invariant-loop-frame g l = ?
+invariant-loop-frame g l = record {
+  in_step : InStep g.N.Engine.answer_of g.N.Engine.problems_of l.self (g.N.Engine.state l.engine);
+  settles : OnlySettles l.initial.self.journal l.self.journal
+}
 
 abbrev pub decreases-loop-frame : goal.decreases-loop-frame
-decreases-loop-frame g l = ?
+decreases-loop-frame g l = length l.self.frames
