@@ -7,6 +7,7 @@ use Rattle.ask_history.specs.Journal.{out_of_memory, findings, all_settled, repl
 use Rattle.ask_history.specs.Legal.{is_legal}
 use Rattle.ask_history.specs.Engine.{EngineState, fresh_state}
 use Rattle.ask_history.specs.Schedule.{journal_of}
+use Rattle.ask_history.specs.Nested.{End}
 use Rattle.ask_history.specs.declared.calls.Call.{Call}
 use Rattle.ask_history.specs.declared.answers.Answer.{Answer}
 use Rattle.ask_history.specs.declared.script.Line.{Line}
@@ -67,7 +68,7 @@ module _ (answer_of : Sources → Call → Answer) (problems_of : Sources → By
         let is = whole h in
         let nothing : now.journal ≡ before.journal = ap {A = SessionState} (λ s. s.journal) (same is.none) in
         let all : before.journal ≡ journal_of (out_of_memory before.journal) lines =
-        sym (ap (λ ws. resume (out_of_memory before.journal) ws _ before.journal) is.none) ∙ is.leads.leads (out_of_memory before.journal) (own_marks before.journal first.holds.legal) in
+        sym (ap (λ ws. resume (out_of_memory before.journal) ws End before.journal) is.none) ∙ is.leads.leads (out_of_memory before.journal) (own_marks before.journal first.holds.legal) in
         subst (λ js. js ≡ journal_of (out_of_memory js) lines) (sym (events ∙ nothing)) all;
     cut = λ h.
         let without : List ℕ = out_of_memory before.journal in
