@@ -80,7 +80,7 @@ module _ (answer_of : Sources → Call → Answer) (problems_of : Sources → By
           settlings = settles.settlings;
           of_schedule = sym (underway.leads.leads without (own_marks before.journal first.holds.legal)) ∙ more.is;
           ends = events ∙ settles.more;
-          only = settles.only
+          only = settles.only;
         };
     legal = subst (λ js. IsTrue (is_legal js)) (sym events) last.holds.legal;
     all_settled = subst (λ js. all_settled js ≡ true) (sym events) settled;
@@ -90,7 +90,7 @@ module _ (answer_of : Sources → Call → Answer) (problems_of : Sources → By
     engine = record {
       sources = last.served.sources ∙ sym (ap after events);
       asks = no_map (λ ask. ask.0) state.asks (last.served.fed ∙ if_none now.closed (fed_of now.frames) (ap fed_of none));
-      staged = last.served.staged
+      staged = last.served.staged;
     };
   }
     where
