@@ -51,7 +51,10 @@ static BRACKETS: [Row; 19] = [
     ("▮((a))▮", "0 Bind a 2-3"),
     ("▮(a)▮(b)", "0 Bind a 1-2"),
     ("▮(a)▮.b", "0 Bind a 1-2"),
-    ("▮(a, B)▮", "0 TuplePat 0-6 [1 Bind a 1-2, 2 StablePat B 4-5]"),
+    (
+        "▮(a, B)▮",
+        "0 TuplePat 0-6 [1 Bind a 1-2, 2 StablePat B 4-5]",
+    ),
     (
         "▮(a, b, c)▮",
         "0 TuplePat 0-9 [1 Bind a 1-2, 2 Bind b 4-5, 3 Bind c 7-8]",

@@ -31,11 +31,11 @@ use Rattle.schedule_player.proofs.Served.{asked_stays}
 use Rattle.schedule_player.proofs.Pushing.{after-push, checked-push, findings-push}
 use Rattle.schedule_player.proofs.Noted.{noted_check}
 
-no_map : {A B : Type 0} (f : A → B) (xs : List A) → map f xs ≡ [] → xs ≡ []
+pub no_map : {A B : Type 0} (f : A → B) (xs : List A) → map f xs ≡ [] → xs ≡ []
 no_map f [] h = refl
 no_map f (x ∷ xs) h = cc
 
-if_none : (b : Bool) (ts : List ℕ) → ts ≡ [] → (if b then [] else ts) ≡ []
+pub if_none : (b : Bool) (ts : List ℕ) → ts ≡ [] → (if b then [] else ts) ≡ []
 if_none true ts h = refl
 if_none false ts h = h
 

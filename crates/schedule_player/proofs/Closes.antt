@@ -120,7 +120,7 @@ module _ (answer_of : Sources → Call → Answer) (problems_of : Sources → By
   close_finds = quiet.finds
 
 module _ (answer_of : Sources → Call → Answer) (problems_of : Sources → Bytes → List Problem) (session : SessionState) (state : EngineState)
-  (step : InStep answer_of problems_of session state) where
+    (step : InStep answer_of problems_of session state) where
   said : Quiet answer_of problems_of session.journal (after_close session.journal)
   said = quiet answer_of problems_of session.journal
 
@@ -133,21 +133,24 @@ module _ (answer_of : Sources → Call → Answer) (problems_of : Sources → By
       numbered = λ k. n.numbered k ∙ sym (said.names k);
       counted = n.counted ∙ sym said.count;
       answers = λ t. n.answers t ∙ sym (said.answers t);
-      problems = n.problems ∙ sym (ap (map (λ finding. finding.1)) said.finds)
+      problems = n.problems ∙ sym (ap (map (λ finding. finding.1)) said.finds);
     };
     served = let s = step.served in record {
       fed = refl;
       asked = All-nil (IsAsked (after_close session.journal));
       staged = s.staged;
-      sources = s.sources ∙ sym said.sources
+      sources = s.sources ∙ sym said.sources;
     };
   }
 
   close_ahead : (found : Option Found) (names : List Bytes) → IsAhead problems_of session.journal found names → IsAhead problems_of (after_close session.journal) found names
   close_ahead None names h = h ∙ sym said.checks
-  close_ahead (Some f) names h =
-      (h.0 ∙ ap (λ ns. ns ++ f.file ∷ []) (sym said.checks), h.1 ∙ ap (λ files. problems_of files f.file) (sym said.sources), h.2,
-      (λ j. unchecked (said.checks j) (said.sources j)) ∙ h.3)
+  close_ahead (Some f) names h = (
+    h.0 ∙ ap (λ ns. ns ++ f.file ∷ []) (sym said.checks),
+    h.1 ∙ ap (λ files. problems_of files f.file) (sym said.sources),
+    h.2,
+    (λ j. unchecked (said.checks j) (said.sources j)) ∙ h.3,
+  )
 
   pub close_checks : ChecksInStep problems_of session state → ChecksInStep problems_of (record session { journal = after_close session.journal; closed = true }) (stopped_state state)
   close_checks checks = record { skipped = checks.skipped; ahead = close_ahead session.found state.checked checks.ahead }

@@ -13,6 +13,7 @@ pub mod Tellings
 pub mod CheckRuns
 pub mod Arrivals
 pub mod OnlySettling
+pub mod Owing
 pub mod Replies
 pub mod Growing
 pub mod Closes

@@ -69,13 +69,13 @@ called_by (event ∷ journal) c k t h = by event (ticket_under c k event) refl (
         left_some (call_under t event) (call_of journal t) (here event t (q ∙ is))
 
 module _ (answer_of : Sources → Call → Answer) (problems_of : Sources → Bytes → List Problem) (session : SessionState) (state : EngineState)
-  (step : InStep answer_of problems_of session state) where
+    (step : InStep answer_of problems_of session state) where
   pub accepted_by : (k t : ℕ) → ticket_of session.journal 0 k ≡ Some t → IsAccepted session.journal t
   accepted_by k t h = let called = called_by session.journal 0 k t h in record { within = accepted_below session.journal step.holds.legal t called; called = called }
 
   -- an event that nobody but the journal sees
   module _ (event : Event) (new : Holds (asks_of session.frames) (session.journal ++ event ∷ [])) (noted : IsNoted answer_of problems_of (record session { journal = session.journal ++ event ∷ [] }))
-    (closed : is_closed (session.journal ++ event ∷ []) ≡ is_closed session.journal) (same_after : after (session.journal ++ event ∷ []) ≡ after session.journal) (same_checked : checked (session.journal ++ event ∷ []) ≡ checked session.journal) where
+      (closed : is_closed (session.journal ++ event ∷ []) ≡ is_closed session.journal) (same_after : after (session.journal ++ event ∷ []) ≡ after session.journal) (same_checked : checked (session.journal ++ event ∷ []) ≡ checked session.journal) where
     pub aside_in_step : InStep answer_of problems_of (record session { journal = session.journal ++ event ∷ [] }) state
     aside_in_step = record {
       holds = new;
@@ -87,9 +87,12 @@ module _ (answer_of : Sources → Call → Answer) (problems_of : Sources → By
 
     aside_ahead : (found : Option Found) (names : List Bytes) → IsAhead problems_of session.journal found names → IsAhead problems_of (session.journal ++ event ∷ []) found names
     aside_ahead None names h = h ∙ sym same_checked
-    aside_ahead (Some f) names h =
-        (h.0 ∙ ap (λ ns. ns ++ f.file ∷ []) (sym same_checked), h.1 ∙ ap (λ files. problems_of files f.file) (sym same_after), h.2,
-        (λ j. unchecked (same_checked j) (same_after j)) ∙ h.3)
+    aside_ahead (Some f) names h = (
+      h.0 ∙ ap (λ ns. ns ++ f.file ∷ []) (sym same_checked),
+      h.1 ∙ ap (λ files. problems_of files f.file) (sym same_after),
+      h.2,
+      (λ j. unchecked (same_checked j) (same_after j)) ∙ h.3,
+    )
 
     pub aside_checks : ChecksInStep problems_of session state → ChecksInStep problems_of (record session { journal = session.journal ++ event ∷ [] }) state
     aside_checks checks = record { skipped = checks.skipped; ahead = aside_ahead session.found state.checked checks.ahead }
@@ -210,7 +213,7 @@ unsettled_some (Settle ticket m ∷ events) settled t h u = unsettled_some event
 unsettled_some (Checked file ∷ events) settled t h u = unsettled_some events settled t h u
 
 module _ (answer_of : Sources → Call → Answer) (problems_of : Sources → Bytes → List Problem) (session : SessionState) (state : EngineState)
-  (step : InStep answer_of problems_of session state) (placed : IsPlaced session.frames) where
+    (step : InStep answer_of problems_of session state) (placed : IsPlaced session.frames) where
   -- no check begins where the session is shut down or an ask is open
   no_begin : (session.closed || top_under_ask session.frames) ≡ true → check_begins session.journal ≡ false
   no_begin h = by (is_closed session.journal) refl

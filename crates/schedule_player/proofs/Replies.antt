@@ -46,7 +46,7 @@ unfolding Counted upto ticket_in
 counted-more journal event legal may counted = tickets-push journal event ∙ by event may ∙ ap upto (sym (accepted-push journal event))
   where
     same : (e : Event) → is_accept e ≡ false → ticket_in e ≡ [] → tickets journal ++ ticket_in e ≡ upto (accepted journal + cond (is_accept e) 1 0)
-    same e no none = ap (λ ts. tickets journal ++ ts) none ∙ append-nil (tickets journal) ∙ counted ∙ ap upto (plus_none (accepted journal) ∙ ap (λ b. accepted journal + cond b 1 0) (sym no))
+    same e other none = ap (λ ts. tickets journal ++ ts) none ∙ append-nil (tickets journal) ∙ counted ∙ ap upto (plus_none (accepted journal) ∙ ap (λ b. accepted journal + cond b 1 0) (sym other))
       where
         plus_none : (n : ℕ) → n ≡ n + 0
         plus_none n = omega arith

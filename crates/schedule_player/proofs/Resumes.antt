@@ -106,6 +106,5 @@ pub fewer_frames : (frames : List Frame) (frame : Frame) → first_of frames ≡
 fewer_frames [] frame h = cc
 fewer_frames (f ∷ frames) frame h = omega arith
 
-
 pub at_least : (m n : ℕ) → n ≤ m → nat_le n m ≡ true
 at_least m n h = grind (arith, nat_tests)

@@ -4,7 +4,7 @@ use Rattle.std.specs.declared.alloc.Global.{Global}
 use Rattle.std.specs.declared.dyn_box.DynBox.{DynBox}
 use Rattle.report_hub.specs.Telling.{Finding}
 use Rattle.report_hub.specs.Hub.{OfEach, IsTold, IsToldMost}
-use Rattle.report_hub.proofs.Reports.{OfEach-told_more}
+use Rattle.report_hub.proofs.Reports.{OfEach-told_none, OfEach-told_more}
 use Rattle.schedule_player.specs.Reporting.{KeepsTold}
 
 module _ {Kind : Type 0} {At : Kind → Type 0} {told : DynBox Kind Global At → List Finding} {faults : DynBox Kind Global At → ℕ} where
@@ -21,3 +21,8 @@ module _ {Kind : Type 0} {At : Kind → Type 0} {told : DynBox Kind Global At �
     keeps = λ start h. subst (λ x. OfEach (IsToldMost told faults x) start s') (sym e)
         (OfEach-told_more told faults f finding start s s' (subst (λ x. OfEach (IsToldMost told faults f) start x) (sym d) h) one);
   }
+
+-- from the first report on
+pub told_from : {Kind : Type 0} {At : Kind → Type 0} (told : DynBox Kind Global At → List Finding) (faults : DynBox Kind Global At → ℕ) (f : List Finding) (r r' : List (Option (DynBox Kind Global At)))
+    → KeepsTold told faults [] r f r' → OfEach (IsToldMost told faults f) r r'
+told_from told faults f r r' keeps = keeps.keeps r (OfEach-told_none told faults r)

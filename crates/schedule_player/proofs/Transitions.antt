@@ -35,7 +35,7 @@ module _ (check : ℕ) (old new : SessionState) (work : Work) (e : new ≡ recor
 
 -- a check is done
 module _ (check : ℕ) (old now new : SessionState) (work : Work) (checks : IsSameButChecks old now) (done : now.journal ≡ check_done old.journal)
-  (e : new ≡ record now { frames = with_work work now.frames }) (is : IsOfChecks (top_work old.frames)) where
+    (e : new ≡ record now { frames = with_work work now.frames }) (is : IsOfChecks (top_work old.frames)) where
   pub done_reaches : ((without : List ℕ) (parts : _) → FirstPart check parts → ending without (top_work old.frames) parts old.journal ≡ ending without work parts (check_done old.journal)) → Reaches check old new
   done_reaches same =
       let journal : new.journal ≡ check_done old.journal = ap {A = SessionState} (λ s. s.journal) e ∙ done in

@@ -1,4 +1,4 @@
-ghost use Rattle.std.specs.Prelude.{◌≡◌, [], OnOk};
+ghost use Rattle.std.specs.Prelude.{◌≡◌, [], false, OnOk};
 ghost use Rattle.schedule_player.specs.SessionState.{fresh_session};
 ghost use Rattle.schedule_player.specs.InStep.{InStep, ChecksInStep};
 ghost use Rattle.schedule_player.specs.Around.{around, top_work};
@@ -66,6 +66,7 @@ impl Session {
         ensures in_step { InStep N.answer_of N.problems_of self.new (N.state engine.new) }
         ensures frames { self.new.frames ≡ [] }
         ensures settles { OnlySettles self.old.journal self.new.journal }
+        ensures none { self.old.frames ≡ [] → self.new ≡ self.old }
     {
         while let Some(frame) = self.top() {
             self.give_up_top(engine, frame.work);
@@ -74,7 +75,9 @@ impl Session {
 }
 
 // Nothing was played.
-fn nothing(alloc: Global) -> Played {
+fn nothing(alloc: Global) -> Played
+    ensures { result ≡ record { journal = record { events = [] }; answers = []; problems = []; whole = false } }
+{
     Played {
         journal: Journal {
             events: Row::new(alloc),

@@ -1,6 +1,6 @@
 ghost use Rattle.std.specs.Prelude.{◌≡◌, ℕ, ◌<◌, ◌≤◌, ◌+◌, ◌^◌, ◌++◌, ◌∷◌, [], length, slice_set, slice_index_or, unwrap_or, is_some, Some, None, Ok, Err, IsTrue, IfOk, OnOk, OnErr, IsSome, true, false};
 ghost use Rattle.ask_history.specs.Sources.{mutated};
-ghost use Rattle.ask_history.specs.Engine.{HasFileSizes};
+ghost use Rattle.ask_history.specs.Engine.{HasFileSizes, has_file_names};
 ghost use Rattle.ask_history.specs.Journal.{accepted, after, call_of, is_cancelled, is_open, reply, taking_effect};
 ghost use Rattle.ask_history.specs.Closing.{after_close};
 ghost use Rattle.ask_history.specs.Schedule.{cancel_ticket};
@@ -117,7 +117,8 @@ impl Session {
 
     /// Numbers a call line and accepts its call. Gives the ticket.
     pub fn accept(&mut self, call: Call) -> Result<u64, NoMemory>
-        requires { length (reloaded_by call) < 2 ^ 32 }
+        requires names { has_file_names call ≡ true }
+        requires few { length (reloaded_by call) < 2 ^ 32 }
         ensures ticket { IfOk result (λ ticket. ticket ≡ accepted self.old.journal) }
         ensures ok { OnOk result (self.new ≡ record self.old { journal = self.old.journal ++ Accept (accepted self.old.journal) 0 (length self.old.tickets) call ∷ []; tickets = self.old.tickets ++ Some (accepted self.old.journal) ∷ []; answers = self.old.answers ++ answer.Closed ∷ [] }) }
         ensures err { OnErr result (self.new ≡ self.old) }

@@ -86,11 +86,11 @@ given_is_told content (Reads limit name next) a t is (inl (inl wrong)) = cc
 given_is_told content (Reads limit name next) a t is (inl (inr wrong)) = cc
 given_is_told content (Reads limit name next) a t is (inr (bytes, begins, comes)) =
     by (content name) is begins (λ text same is_told. given_is_told content (next bytes) a t (ap (λ b. told content (next b)) same ∙ is_told) comes) where
-  by : (c : Option Bytes) → if_told (λ b. told content (next (take (most_of limit + 1) b))) c ≡ Some t → IsBeginning c (most_of limit + 1) bytes
-      → ((text : Bytes) → bytes ≡ take (most_of limit + 1) text → told content (next (take (most_of limit + 1) text)) ≡ Some t → t ≡ Ok a)
-      → t ≡ Ok a
-  by None wrong begin more = cc
-  by (Some text) is_told begin more = more text begin is_told
+      by : (c : Option Bytes) → if_told (λ b. told content (next (take (most_of limit + 1) b))) c ≡ Some t → IsBeginning c (most_of limit + 1) bytes
+          → ((text : Bytes) → bytes ≡ take (most_of limit + 1) text → told content (next (take (most_of limit + 1) text)) ≡ Some t → t ≡ Ok a)
+          → t ≡ Ok a
+      by None wrong begin more = cc
+      by (Some text) is_told begin more = more text begin is_told
 
 -- where the contents tell a refusal, it is the one that is told, or a fault of reading is
 pub refused_is_told : {A : Type 0} (content : Bytes → Option Bytes) (reading : Reading A) (why other : Refusal) → told content reading ≡ Some (Err other) → ComesTo {A = A} content reading (Err (Refused why))
@@ -102,8 +102,8 @@ refused_is_told content (Reads limit name next) why other is (inl (inl same)) = 
 refused_is_told content (Reads limit name next) why other is (inl (inr wrong)) = cc
 refused_is_told content (Reads limit name next) why other is (inr (bytes, begins, comes)) =
     by (content name) is begins (λ text same is_told. refused_is_told content (next bytes) why other (ap (λ b. told content (next b)) same ∙ is_told) comes) where
-  by : (c : Option Bytes) → if_told (λ b. told content (next (take (most_of limit + 1) b))) c ≡ Some (Err other) → IsBeginning c (most_of limit + 1) bytes
-      → ((text : Bytes) → bytes ≡ take (most_of limit + 1) text → told content (next (take (most_of limit + 1) text)) ≡ Some (Err other) → (why ≡ other) ⊎ ((n : Bytes) × (why ≡ refusal.ReadFault n)))
-      → (why ≡ other) ⊎ ((n : Bytes) × (why ≡ refusal.ReadFault n))
-  by None wrong begin more = cc
-  by (Some text) is_told begin more = more text begin is_told
+      by : (c : Option Bytes) → if_told (λ b. told content (next (take (most_of limit + 1) b))) c ≡ Some (Err other) → IsBeginning c (most_of limit + 1) bytes
+          → ((text : Bytes) → bytes ≡ take (most_of limit + 1) text → told content (next (take (most_of limit + 1) text)) ≡ Some (Err other) → (why ≡ other) ⊎ ((n : Bytes) × (why ≡ refusal.ReadFault n)))
+          → (why ≡ other) ⊎ ((n : Bytes) × (why ≡ refusal.ReadFault n))
+      by None wrong begin more = cc
+      by (Some text) is_told begin more = more text begin is_told

@@ -13,5 +13,4 @@ pub fn law_told_readings<A>()
         → ComesTo {A = A} content reading (Err (Refused why)) → (why ≡ other) ⊎ ((name : Bytes) × (why ≡ ReadFault name)) }
     ensures not_refused { (content : Bytes → Option Bytes) (reading : Reading A) (a : A) (why : Why) → told content reading ≡ Some (Ok a)
         → ComesTo {A = A} content reading (Err (Refused why)) → (name : Bytes) × (why ≡ ReadFault name) }
-{
-}
+{}

@@ -15,7 +15,7 @@ invariant-loop-self g l = record {
   line : top_work l.self.frames ≡ Checks l.next;
   reaches : Reaches l.number l.initial.self l.self;
   told : KeepsTold (λ b. (goal.Reporter-dyn g (b.vtable, b.value)).told b.value) (λ b. (goal.Reporter-dyn g (b.vtable, b.value)).faults b.value)
-      (findings g.N.Engine.problems_of l.initial.self.journal) (reporters_of l.initial.hub) (findings g.N.Engine.problems_of l.self.journal) (reporters_of l.hub)
+      (findings g.N.Engine.problems_of l.initial.self.journal) (reporters_of l.initial.hub) (findings g.N.Engine.problems_of l.self.journal) (reporters_of l.hub);
 }
 
 abbrev pub decreases-loop-self : goal.decreases-loop-self

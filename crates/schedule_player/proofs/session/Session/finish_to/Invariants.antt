@@ -12,7 +12,7 @@ invariant-loop-frame g l = record {
   checks : ChecksInStep g.N.Engine.problems_of l.self (g.N.Engine.state l.engine);
   ends : EndsTo l.level l.initial.self l.self;
   told : KeepsTold (λ b. (goal.Reporter-dyn g (b.vtable, b.value)).told b.value) (λ b. (goal.Reporter-dyn g (b.vtable, b.value)).faults b.value)
-      (findings g.N.Engine.problems_of l.initial.self.journal) (reporters_of l.initial.hub) (findings g.N.Engine.problems_of l.self.journal) (reporters_of l.hub)
+      (findings g.N.Engine.problems_of l.initial.self.journal) (reporters_of l.initial.hub) (findings g.N.Engine.problems_of l.self.journal) (reporters_of l.hub);
 }
 
 abbrev pub decreases-loop-frame : goal.decreases-loop-frame

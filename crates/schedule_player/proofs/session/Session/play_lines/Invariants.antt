@@ -15,7 +15,7 @@ invariant-loop-line g l = record {
   can : CanPlayAll l.left.items;
   leads : LeadsTo l.fn.lines l.self.frames (nested (length l.self.tickets) l.left.items) l.self.journal;
   told : KeepsTold (λ b. (goal.Reporter-dyn g (b.vtable, b.value)).told b.value) (λ b. (goal.Reporter-dyn g (b.vtable, b.value)).faults b.value)
-      (findings g.N.Engine.problems_of l.initial.self.journal) (reporters_of l.initial.hub) (findings g.N.Engine.problems_of l.self.journal) (reporters_of l.hub)
+      (findings g.N.Engine.problems_of l.initial.self.journal) (reporters_of l.initial.hub) (findings g.N.Engine.problems_of l.self.journal) (reporters_of l.hub);
 }
 
 abbrev pub decreases-loop-line : goal.decreases-loop-line
