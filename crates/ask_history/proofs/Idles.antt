@@ -65,7 +65,7 @@ unchecked-here : (names : List Bytes) (name : Bytes) → unchecked (names ++ nam
 unchecked-here names name =
     not_from_true _ (list_any-append (bytes_eq name) names (name ∷ []) ∙ or_right _ _ (or_left _ _ (nat_list_eq_equiv.refl name)))
 
-due-fewer : (journal : List Event) (name : Bytes) (names : List Bytes) → due journal ≡ name ∷ names
+pub due-fewer : (journal : List Event) (name : Bytes) (names : List Bytes) → due journal ≡ name ∷ names
     → length (due (journal ++ Checked name ∷ [])) + 1 ≤ length (due journal)
 due-fewer journal name names h =
     let event : Event = Checked name in
@@ -79,7 +79,7 @@ due-fewer journal name names h =
 
 -- ---- the checks
 
-none_left : (journal : List Event) → length (due journal) ≤ 0 → check_begins journal ≡ false
+pub none_left : (journal : List Event) → length (due journal) ≤ 0 → check_begins journal ≡ false
 none_left journal h = and_right (not (is_closed journal) && all_settled journal) (some_of (due journal)) (none (due journal) h)
   where
     none : (names : List Bytes) → length names ≤ 0 → some_of names ≡ false

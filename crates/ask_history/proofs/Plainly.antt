@@ -16,7 +16,7 @@ use Rattle.ask_history.proofs.Pushes.{list_any-push}
 use Rattle.ask_history.proofs.Underway.{Holds, holds-none, holds-accept, accept-shut}
 use Rattle.ask_history.proofs.Plays.{Keeps, keeps-call}
 
-all_of-before : (check : ℕ) (one : Play) (parts : List Part) (journal : List Event) → all_of (before check one parts) journal ≡ all_of parts (one journal)
+pub all_of-before : (check : ℕ) (one : Play) (parts : List Part) (journal : List Event) → all_of (before check one parts) journal ≡ all_of parts (one journal)
 all_of-before check one [] journal = refl
 all_of-before check one (part ∷ parts) journal = by (check == part.check)
   where

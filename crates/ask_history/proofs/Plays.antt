@@ -77,7 +77,7 @@ keeps-call without tag call inner keep under journal h = by (is_closed journal) 
     by true e = keep under journal h
     by false e = accept e (is_mutation call) refl
 
-keeps-cancel : (ticket : Option ℕ) (under : List ℕ) (journal : List Event) → Holds under journal → Holds under (cancel_ticket ticket journal)
+pub keeps-cancel : (ticket : Option ℕ) (under : List ℕ) (journal : List Event) → Holds under journal → Holds under (cancel_ticket ticket journal)
 keeps-cancel None under journal h = h
 keeps-cancel (Some ticket) under journal h = by (is_open journal ticket && not (is_cancelled journal ticket)) refl
   where
@@ -90,7 +90,7 @@ keeps-cancel (Some ticket) under journal h = by (is_open journal ticket && not (
 
 -- ---- checks
 
-first_passes : (p : Bytes → Bool) (names : List Bytes) (first : Bytes) (rest : List Bytes) → filter p names ≡ first ∷ rest
+pub first_passes : (p : Bytes → Bool) (names : List Bytes) (first : Bytes) (rest : List Bytes) → filter p names ≡ first ∷ rest
     → (p first ≡ true) × (list_any (bytes_eq first) names ≡ true)
 first_passes p [] first rest h = cc
 first_passes p (n ∷ names) first rest h = by (p n) refl (first_passes p names first rest)
@@ -105,11 +105,11 @@ first_passes p (n ∷ names) first rest h = by (p n) refl (first_passes p names 
         let found = next (sym (cond-false (p n) (n ∷ filter p names) (filter p names) e) ∙ h) in
         (found.0, or_right (bytes_eq first n) _ found.1)
 
-loaded_names : (files : Sources) (name : Bytes) → list_any (bytes_eq name) (map (λ file. file.0) files) ≡ is_loaded files name
+pub loaded_names : (files : Sources) (name : Bytes) → list_any (bytes_eq name) (map (λ file. file.0) files) ≡ is_loaded files name
 loaded_names [] name = refl
 loaded_names (file ∷ files) name = ap (λ b. bytes_eq name file.0 || b) (loaded_names files name)
 
-keeps-check_done : Keeps check_done
+pub keeps-check_done : Keeps check_done
 unfolding Keeps
 keeps-check_done under journal h = by (is_closed journal) refl
   where
@@ -179,7 +179,7 @@ some_later : (b : Bool) (call : Call) (later : Option Call) → is_some later �
 some_later true call later h = refl
 some_later false call later h = h
 
-settled_tickets : (settled : ℕ → Bool) (events : List Event) → ((t : ℕ) → is_some (call_of events t) ≡ true → settled t ≡ true) → list_all settled (tickets events) ≡ true
+pub settled_tickets : (settled : ℕ → Bool) (events : List Event) → ((t : ℕ) → is_some (call_of events t) ≡ true → settled t ≡ true) → list_all settled (tickets events) ≡ true
 settled_tickets settled [] h = refl
 settled_tickets settled (Accept ticket client tag call ∷ events) h =
     and_from (settled ticket) (list_all settled (tickets events))

@@ -116,18 +116,18 @@ called-more journal event legal may called t h =
         (λ (k : settles t event ≡ true). of_event event may k)
         (or_cases (is_settled journal t) (settles t event) (sym (list_any-push (settles t) journal event) ∙ h))
 
-called : (journal : List Event) → IsTrue (is_legal journal) → (t : ℕ) → is_settled journal t ≡ true → is_some (call_of journal t) ≡ true
+pub called : (journal : List Event) → IsTrue (is_legal journal) → (t : ℕ) → is_settled journal t ≡ true → is_some (call_of journal t) ≡ true
 unfolding CalledBefore
 called journal legal = legal-induction CalledBefore called-more (λ t h. cc) journal legal
 
 module _ (journal : List Event) (legal : IsTrue (is_legal journal)) where
-  uncalled : is_some (call_of journal (accepted journal)) ≡ false
+  pub uncalled : is_some (call_of journal (accepted journal)) ≡ false
   uncalled = is_some-call_of journal legal (accepted journal) ∙ none (accepted journal)
     where
       none : (n : ℕ) → nat_lt n n ≡ false
       none n = grind (arith, nat_tests)
 
-  unsettled : is_settled journal (accepted journal) ≡ false
+  pub unsettled : is_settled journal (accepted journal) ≡ false
   unsettled = false_from_ne_true (is_settled journal (accepted journal)) (λ h. true≢false (sym (called journal legal (accepted journal) h) ∙ uncalled))
 
 -- an event that neither accepts, settles nor shuts down
@@ -169,7 +169,7 @@ module _ (under : List ℕ) (journal : List Event) (h : Holds under journal) (sh
   abbrev pub with_accept : List Event
   with_accept = journal ++ Accept (accepted journal) 0 tag call ∷ []
 
-  may_accept : IsTrue (may_follow journal (Accept (accepted journal) 0 tag call))
+  pub may_accept : IsTrue (may_follow journal (Accept (accepted journal) 0 tag call))
   may_accept = and_from (accepted journal == accepted journal) (not (is_closed journal)) (eq-eqb (accepted journal) (accepted journal) refl) (ap not shut)
 
   pub accept-shut : is_closed with_accept ≡ false

@@ -1,1 +1,6 @@
 pub mod Owed
+pub mod SessionState
+pub mod Around
+pub mod InStep
+pub mod Steps
+pub mod Reporting

@@ -9,9 +9,14 @@ pub enum Work {
         turns: u64,
     },
     /// They are played in checks. The next check to begin has this number.
-    Checks { next: u64 },
+    Checks {
+        next: u64,
+    },
     /// They are played in checks. The one of this number has begun, and had so many turns.
-    Check { number: u32, turns: u64 },
+    Check {
+        number: u32,
+        turns: u64,
+    },
     /// They are played in the place of their line.
     Beside,
     /// They are passed over.

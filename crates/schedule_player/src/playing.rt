@@ -1,4 +1,9 @@
-ghost use Rattle.std.specs.Prelude.{◌≡◌};
+ghost use Rattle.std.specs.Prelude.{◌≡◌, [], false, OnOk};
+ghost use Rattle.schedule_player.specs.SessionState.{fresh_session};
+ghost use Rattle.schedule_player.specs.InStep.{InStep, ChecksInStep};
+ghost use Rattle.schedule_player.specs.Around.{around, top_work};
+ghost use Rattle.schedule_player.specs.Steps.{OnlySettles, IsPlayed, IsUnderway};
+ghost use Rattle.schedule_player.specs.Reporting.{KeepsTold};
 ghost use Rattle.ask_history.specs.Engine.{fresh_state};
 ghost use Rattle.ask_history.specs.Journal.{findings};
 ghost use Rattle.report_hub.specs.Hub.{reporters_of, of_box, OfEach, IsToldMost};
@@ -11,34 +16,68 @@ use ask_history::{Engine, Journal, Line};
 use pc_terms::{NoMemory, Row};
 use report_hub::Hub;
 use std::alloc::Global;
+use std::collections::VecDeque;
 
 impl Session {
-    // Plays all lines.
+    // Plays all lines on a fresh session.
     fn play_lines<N: Engine>(
         &mut self,
         engine: &mut N,
         hub: &mut Hub,
         lines: Row<Line>,
-    ) -> Result<(), NoMemory> {
-        for line in lines.into_vec() {
+    ) -> Result<(), NoMemory>
+        requires fresh { self.old ≡ fresh_session }
+        requires in_step { InStep N.answer_of N.problems_of self.old (N.state engine.old) }
+        requires checks { ChecksInStep N.problems_of self.old (N.state engine.old) }
+        requires can { CanPlayAll lines }
+        ensures in_step { InStep N.answer_of N.problems_of self.new (N.state engine.new) }
+        ensures whole { OnOk result (IsPlayed lines self.new) }
+        ensures cut { IsUnderway lines self.new }
+        ensures told { KeepsTold (of_box told) (of_box faults) (findings N.problems_of self.old.journal) (reporters_of hub.old) (findings N.problems_of self.new.journal) (reporters_of hub.new) }
+    {
+        let mut left = VecDeque::from_vec(lines.into_vec());
+        while let Some(line) = left.pop_front() {
             self.play_line(engine, hub, line)?;
         }
-        self.finish_to(engine, hub, 0)
+        self.finish_to(engine, hub, 0)?;
+        Ok(())
+    }
+
+    // Takes the innermost line off, and settles it as out of memory where it is an open ask.
+    fn give_up_top<N: Engine>(&mut self, engine: &mut N, work: Work)
+        requires in_step { InStep N.answer_of N.problems_of self.old (N.state engine.old) }
+        requires top { top_work self.old.frames ≡ work }
+        ensures in_step { InStep N.answer_of N.problems_of self.new (N.state engine.new) }
+        ensures frames { self.new.frames ≡ around self.old.frames }
+        ensures settles { OnlySettles self.old.journal self.new.journal }
+    {
+        match work {
+            Work::Ask { ticket, is_fed, .. } => self.give_up_ask(engine, ticket, is_fed),
+            Work::Checks { .. } => self.pop(),
+            Work::Check { .. } => self.pop(),
+            Work::Beside => self.pop(),
+            Work::Passed => self.pop(),
+        }
     }
 
     // Settles the open asks as out of memory, the innermost first.
-    fn give_up<N: Engine>(&mut self, engine: &mut N) {
+    fn give_up<N: Engine>(&mut self, engine: &mut N)
+        requires in_step { InStep N.answer_of N.problems_of self.old (N.state engine.old) }
+        ensures in_step { InStep N.answer_of N.problems_of self.new (N.state engine.new) }
+        ensures frames { self.new.frames ≡ [] }
+        ensures settles { OnlySettles self.old.journal self.new.journal }
+        ensures none { self.old.frames ≡ [] → self.new ≡ self.old }
+    {
         while let Some(frame) = self.top() {
-            match frame.work {
-                Work::Ask { ticket, is_fed, .. } => self.give_up_ask(engine, ticket, is_fed),
-                _ => self.pop(),
-            }
+            self.give_up_top(engine, frame.work);
         }
     }
 }
 
 // Nothing was played.
-fn nothing(alloc: Global) -> Played {
+fn nothing(alloc: Global) -> Played
+    ensures { result ≡ record { journal = record { events = [] }; answers = []; problems = []; whole = false } }
+{
     Played {
         journal: Journal {
             events: Row::new(alloc),
