@@ -1,5 +1,5 @@
 -- The files that are due are those behind the ones with an outcome.
-use Rattle.std.proofs.Common.{◌≡◌, ℕ, ◌<◌, zero, suc, Bool, true, false, cond, not, ◌||◌, if◌then◌else◌, List, [], ◌∷◌, ◌++◌, length, drop, filter, Option, Some, None, MatchOption, refl, sym, ap, ◌∙◌, arith, length-append}
+use Rattle.std.proofs.Common.{◌≡◌, ℕ, ◌<◌, zero, suc, Bool, true, false, cond, not, ◌||◌, if◌then◌else◌, List, [], ◌∷◌, ◌++◌, length, drop, filter, Option, Some, None, refl, sym, ap, ◌∙◌, arith, length-append}
 use Rattle.std.proofs.lemmas.Bool.{true≢false}
 use Rattle.std.proofs.lemmas.List.{drop_all, length-drop}
 use Rattle.std.proofs.lemmas.List.Elements.{filter_agree}
@@ -9,7 +9,7 @@ use Rattle.std.specs.List.{list_any, AllByRecursion, IsDistinct}
 use Rattle.std.specs.Map.{keys_of}
 use Rattle.std.specs.Str.{bytes_eq}
 use Rattle.ask_history.specs.Sources.{Bytes, some_of, unchecked}
-use Rattle.compiler_loop.specs.Loaded.{AreAhead, files_with, is_checked, is_skipped, texts_of}
+use Rattle.compiler_loop.specs.Loaded.{AreAhead, TakesDue, files_with, is_checked, is_skipped, texts_of}
 use Rattle.compiler_loop.specs.declared.checks.Outcome.{Outcome}
 use Rattle.compiler_loop.specs.declared.checks.Outcome.TheVariants.{Checked, Skipped}
 use Rattle.compiler_loop.specs.declared.source.Source.{Source}
@@ -49,7 +49,7 @@ drop_next (suc n) (first ∷ names) name rest e = let below = drop_next n names 
 
 -- one taken
 pub ahead_taken : (found : Option Bytes) (outcome : Outcome) (due left names : List Bytes) (outcomes told : List Outcome)
-    → MatchOption found ((due ≡ []) × (left ≡ []) × (told ≡ outcomes)) (λ name. (due ≡ name ∷ left) × (told ≡ outcomes ++ outcome ∷ []))
+    → TakesDue found outcome due left outcomes told
     → AreAhead due outcomes names → AreAhead left told names
 ahead_taken None outcome due left names outcomes told taken ahead =
     rw taken.2 (record { rest = taken.1 ∙ sym taken.0 ∙ ahead.rest; count = ahead.count })

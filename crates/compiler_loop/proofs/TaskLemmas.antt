@@ -1,9 +1,10 @@
 -- The tasks of the open asks.
-use Rattle.std.proofs.Common.{◌≡◌, ◌≢◌, ℕ, ◌<◌, ◌==◌, ◌||◌, Bool, true, false, cond, not, List, [], ◌∷◌, ◌++◌, length, filter, Some, None, is_some, refl, sym, ap, ◌∙◌, arith}
+use Rattle.std.proofs.Common.{◌≡◌, ◌≢◌, ℕ, ◌<◌, ◌==◌, ◌&&◌, ◌||◌, Bool, true, false, cond, not, List, [], ◌∷◌, ◌++◌, length, filter, Some, None, is_some, refl, sym, ap, ◌∙◌, arith}
 use Rattle.std.specs.Option.{option_map}
+use Rattle.std.proofs.Math.Bool.{or-false}
 use Rattle.std.proofs.lemmas.Bool.{eq-eqb, true≢false}
 use Rattle.safe_points.specs.declared.entry.Entry.{Entry}
-use Rattle.safe_points.specs.Stack.{ticket_of, is_on, top_of, refreshed, removed, all_stale, with_top_task}
+use Rattle.safe_points.specs.Stack.{ticket_of, has_ticket, has_stale, is_on, top_of, refreshed, removed, all_stale, with_top_task}
 use Rattle.ask_history.specs.Engine.{IsOnTop, is_open_in}
 use Rattle.compiler_loop.specs.CoreParts.{asks_of}
 use Rattle.compiler_loop.specs.declared.tasks.Task.{Task}
@@ -55,6 +56,29 @@ pub top_of_refreshed : (tasks : List (Entry Task)) → option_map ticket_of (top
 top_of_refreshed [] = refl
 top_of_refreshed (only ∷ []) = refl
 top_of_refreshed (below ∷ next ∷ above) = ap (option_map ticket_of) (top_of_changed below next above) ∙ top_of_refreshed (next ∷ above)
+
+-- ---- the mark of the top
+
+pub fresh_refreshed : (tasks : List (Entry Task)) (ticket : ℕ) → option_map ticket_of (top_of tasks) ≡ Some ticket
+    → option_map (λ entry. entry.stale) (top_of (refreshed tasks)) ≡ Some false
+fresh_refreshed [] ticket top = absurd (none≢some top)
+fresh_refreshed (only ∷ []) ticket top = refl
+fresh_refreshed (below ∷ next ∷ above) ticket top =
+    ap (option_map (λ entry. entry.stale)) (top_of_changed below next above) ∙ fresh_refreshed (next ∷ above) ticket top
+
+marked_only : (entry : Entry Task) (ticket : ℕ) → entry.ticket ≡ ticket → ((has_ticket ticket entry && entry.stale) || false) ≡ false → entry.stale ≡ false
+marked_only entry ticket same none =
+    sym (or-false entry.stale) ∙ sym (ap (λ b. (b && entry.stale) || false) (eq-eqb entry.ticket ticket same)) ∙ none
+
+right_none : (a b : Bool) → (a || b) ≡ false → b ≡ false
+right_none false b none = none
+right_none true b none = absurd (true≢false none)
+
+pub fresh_unmarked : (tasks : List (Entry Task)) (ticket : ℕ) → option_map ticket_of (top_of tasks) ≡ Some ticket → has_stale tasks ticket ≡ false
+    → option_map (λ entry. entry.stale) (top_of tasks) ≡ Some false
+fresh_unmarked [] ticket top none = absurd (none≢some top)
+fresh_unmarked (only ∷ []) ticket top none = let same : only.ticket ≡ ticket = cc in ap Some (marked_only only ticket same none)
+fresh_unmarked (below ∷ next ∷ above) ticket top none = fresh_unmarked (next ∷ above) ticket top (right_none (has_ticket ticket below && below.stale) _ none)
 
 -- the task on top put back as it was
 pub asks_of_same : (tasks : List (Entry Task)) (task : Task) → option_map (λ entry. entry.task) (top_of tasks) ≡ Some task → asks_of (with_top_task tasks task) ≡ asks_of tasks

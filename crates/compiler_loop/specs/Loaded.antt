@@ -1,5 +1,5 @@
 -- The loaded files that an engine keeps.
-use Rattle.std.specs.Prelude.{◌≡◌, ◌≤◌, Bool, true, false, not, if◌then◌else◌, List, [], ◌∷◌, length, drop}
+use Rattle.std.specs.Prelude.{◌≡◌, ◌≤◌, Bool, true, false, not, if◌then◌else◌, List, [], ◌∷◌, length, drop, ◌++◌, Option, Some, None}
 use Rattle.ask_history.specs.Sources.{Bytes, Sources}
 use Rattle.compiler_loop.specs.declared.source.Source.{Source}
 use Rattle.compiler_loop.specs.declared.checks.Outcome.{Outcome}
@@ -28,6 +28,11 @@ files_with is_kind [] names = []
 files_with is_kind (outcome ∷ outcomes) [] = []
 files_with is_kind (outcome ∷ outcomes) (name ∷ names) =
     if is_kind outcome then name ∷ files_with is_kind outcomes names else files_with is_kind outcomes names
+
+-- The first file that was due is no longer, and its check came to this outcome; or none was due.
+abbrev pub TakesDue : Option Bytes → Outcome → (due left : List Bytes) → (outcomes told : List Outcome) → Type 0
+TakesDue None outcome due left outcomes told = (due ≡ []) × (left ≡ []) × (told ≡ outcomes)
+TakesDue (Some name) outcome due left outcomes told = (due ≡ name ∷ left) × (told ≡ outcomes ++ outcome ∷ [])
 
 -- the files that are due are those behind the ones with an outcome
 pub record AreAhead (due : List Bytes) (outcomes : List Outcome) (names : List Bytes) : Type 0 where

@@ -1,16 +1,13 @@
-ghost use Rattle.std.specs.Prelude.{◌≡◌, ◌≤◌, length, IfOk};
+ghost use Rattle.std.specs.Prelude.{◌≡◌, IfOk};
 ghost use Rattle.compiler_loop.specs.LoadedView.{files_of, IsUnchanged};
 ghost use Rattle.compiler_loop.specs.ThinAnswer.{thin_answer, tree_answer, unread};
-ghost use Rattle.ask_history.specs.Sources.{text_of, put_file, reloaded};
-ghost use Rattle.compiler_loop.specs.CoreParts.{entries_of};
+ghost use Rattle.ask_history.specs.Sources.{text_of};
 
 use crate::loaded::LoadedFiles;
-use crate::tasks::NewFile;
 use crate::thin::{info_at, located};
 use ask_history::{Answer, Call};
 use pc_terms::{NoMemory, Text};
 use std::alloc::Global;
-use std::collections::VecDeque;
 
 /// The answer of an ask over the loaded files.
 pub fn answer(alloc: Global, loaded: &mut LoadedFiles, call: &Call) -> Result<Answer, NoMemory>

@@ -1,4 +1,4 @@
-ghost use Rattle.std.specs.Prelude.{◌≡◌, ℕ, ◌+◌, ◌≤◌, [], ◌∷◌, ◌++◌, length, not, filter, if◌then◌else◌, OnOk, MatchOption, vec_capacity};
+ghost use Rattle.std.specs.Prelude.{◌≡◌, ℕ, ◌+◌, ◌≤◌, [], ◌∷◌, ◌++◌, length, not, filter, if◌then◌else◌, OnOk, vec_capacity};
 ghost use Rattle.std.specs.VecDeque.{deque_capacity};
 ghost use Rattle.std.specs.List.{list_any};
 ghost use Rattle.std.specs.Str.{bytes_eq};
@@ -27,6 +27,7 @@ pub struct Checks {
 }
 
 impl Checks {
+    ghost use Rattle.compiler_loop.specs.Loaded.{TakesDue};
     ghost use Rattle.compiler_loop.specs.ChecksView.{due_in, outcomes_in, HasRoomIn};
 
     pub fn new(alloc: Global) -> Checks
@@ -61,7 +62,7 @@ impl Checks {
 
     /// Takes the first file that is due, with what its check came to. It takes no memory.
     pub fn take(&mut self, outcome: Outcome) -> Option<Text>
-        ensures { MatchOption result ((due_in self.old ≡ []) × (due_in self.new ≡ []) × (outcomes_in self.new ≡ outcomes_in self.old)) (λ name. (due_in self.old ≡ name ∷ due_in self.new) × (outcomes_in self.new ≡ outcomes_in self.old ++ outcome ∷ [])) }
+        ensures { TakesDue result outcome (due_in self.old) (due_in self.new) (outcomes_in self.old) (outcomes_in self.new) }
     {
         let name = self.due.pop_front()?;
         self.outcomes.push_reserved(outcome);

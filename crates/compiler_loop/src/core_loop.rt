@@ -3,9 +3,9 @@ ghost use Rattle.std.specs.Option.{ForSome};
 ghost use Rattle.compiler_loop.specs.CoreParts.{IsReady};
 
 use crate::loaded::LoadedFiles;
-use crate::staging::{apply, stage};
+use crate::staging::stage;
 use crate::tasks::{Staged, Task};
-use crate::working::{answer_top, check_first, close_all, open_task};
+use crate::working::{answer_top, check_first, close_all, open_task, put_in_force};
 use ask_history::{Call, Effect, Engine, Fed, Turn};
 use pc_terms::NoMemory;
 use safe_points::Stack;
@@ -100,10 +100,7 @@ impl Engine for Core {
         }
         if let Some(staged) = self.staged.take() {
             match effect {
-                Effect::Applies => {
-                    apply(&mut self.loaded, staged);
-                    self.tasks.stale_all();
-                }
+                Effect::Applies => put_in_force(&mut self.loaded, &mut self.tasks, staged),
                 Effect::Dropped => {}
             }
         }

@@ -1,11 +1,11 @@
-ghost use Rattle.std.specs.Prelude.{◌≡◌, ◌≤◌, ◌<◌, ◌+◌, ◌↔◌, ℕ, [], ◌∷◌, ◌++◌, length, take, drop, filter, not, Option, Some, None, IsTrue, OnOk, IfOk, MatchOption};
+ghost use Rattle.std.specs.Prelude.{◌≡◌, ◌+◌, ◌↔◌, ℕ, [], length, take, filter, not, IsTrue, OnOk, IfOk};
 ghost use Rattle.std.specs.List.{list_any, IsDistinct};
 ghost use Rattle.std.specs.Map.{keys_of};
 ghost use Rattle.std.specs.Option.{option_map, ForSome};
 ghost use Rattle.std.specs.Str.{bytes_eq};
 ghost use Rattle.ask_history.specs.Sources.{is_loaded, put_file, removed, text_of};
 ghost use Rattle.compiler_loop.specs.ChecksView.{due_in, outcomes_in};
-ghost use Rattle.compiler_loop.specs.Loaded.{is_thin, AreAhead};
+ghost use Rattle.compiler_loop.specs.Loaded.{is_thin, AreAhead, TakesDue};
 ghost use Rattle.compiler_loop.specs.ThinAnswer.{are_thin, units_of};
 
 use crate::checks::{Checks, Outcome};
@@ -116,7 +116,7 @@ impl LoadedFiles {
     pub fn take_due(&mut self, outcome: Outcome) -> Option<Text>
         ensures files { files_of self.new ≡ files_of self.old }
         ensures names { names_of self.new ≡ names_of self.old }
-        ensures taken { MatchOption result ((due_of self.old ≡ []) × (outcomes_of self.new ≡ outcomes_of self.old)) (λ name. (due_of self.old ≡ name ∷ due_of self.new) × (outcomes_of self.new ≡ outcomes_of self.old ++ outcome ∷ [])) }
+        ensures taken { TakesDue result outcome (due_of self.old) (due_of self.new) (outcomes_of self.old) (outcomes_of self.new) }
     {
         self.checks.take(outcome)
     }

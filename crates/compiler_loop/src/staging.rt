@@ -1,4 +1,4 @@
-ghost use Rattle.std.specs.Prelude.{◌≡◌, ◌≤◌, ℕ, [], length, All, true, OnErr, IfOk};
+ghost use Rattle.std.specs.Prelude.{◌≡◌, [], length, true, IfOk};
 ghost use Rattle.compiler_loop.specs.LoadedView.{files_of, names_of, outcomes_of, HasRoom};
 ghost use Rattle.ask_history.specs.Engine.{HasFileSizes};
 ghost use Rattle.ask_history.specs.Sources.{is_mutation, mutated, reloaded};

@@ -2,10 +2,10 @@ ghost use Rattle.std.specs.Prelude.{◌≡◌, ◌∷◌, ◌++◌, [], false, S
 ghost use Rattle.std.specs.List.{IsDistinct};
 ghost use Rattle.std.specs.Option.{option_map};
 ghost use Rattle.std.specs.Str.{bytes_eq};
-ghost use Rattle.ask_history.specs.Sources.{is_mutation};
-ghost use Rattle.safe_points.specs.Stack.{is_on, ticket_of, top_of};
-ghost use Rattle.compiler_loop.specs.CoreParts.{asks_of};
-ghost use Rattle.compiler_loop.specs.LoadedView.{files_of, names_of, IsUnchanged};
+ghost use Rattle.ask_history.specs.Sources.{is_mutation, mutated};
+ghost use Rattle.safe_points.specs.Stack.{all_stale, is_on, ticket_of, top_of};
+ghost use Rattle.compiler_loop.specs.CoreParts.{asks_of, call_of, IsReady};
+ghost use Rattle.compiler_loop.specs.LoadedView.{files_of, names_of, outcomes_of, IsUnchanged};
 ghost use Rattle.compiler_loop.specs.Turns.{AnswersTop, ChecksFirst};
 
 use crate::answering::answer;
@@ -13,7 +13,8 @@ use crate::checks::Outcome;
 use crate::copying::copied_ask;
 use crate::loaded::LoadedFiles;
 use crate::problems::problems;
-use crate::tasks::Task;
+use crate::staging::apply;
+use crate::tasks::{Staged, Task};
 use ask_history::{Call, Turn};
 use pc_terms::NoMemory;
 use safe_points::Stack;
@@ -52,11 +53,12 @@ pub fn answer_top(
 }
 
 // Nothing of a task outlives a turn, so that it starts again by losing its mark.
-#[tactic(auto, using(crate::proofs::TaskLemmas::some_top, crate::proofs::TaskLemmas::asks_of_refreshed, crate::proofs::TaskLemmas::top_of_refreshed))]
+#[tactic(auto, using(crate::proofs::TaskLemmas::some_top, crate::proofs::TaskLemmas::asks_of_refreshed, crate::proofs::TaskLemmas::top_of_refreshed, crate::proofs::TaskLemmas::fresh_refreshed, crate::proofs::TaskLemmas::fresh_unmarked))]
 fn restart_top(tasks: &mut Stack<Task>, ticket: u64)
     requires { option_map ticket_of (top_of tasks.old) ≡ Some ticket }
     ensures asks { asks_of tasks.new ≡ asks_of tasks.old }
     ensures top { option_map ticket_of (top_of tasks.new) ≡ Some ticket }
+    ensures fresh { option_map (λ entry. entry.stale) (top_of tasks.new) ≡ Some false }
 {
     if tasks.is_stale(ticket) {
         tasks.refresh_top();
@@ -82,6 +84,17 @@ pub fn check_first(alloc: Global, loaded: &mut LoadedFiles) -> Turn
             None => Turn::Idle,
         },
     }
+}
+
+/// Puts a mutation in force, after which every task has to start again. It takes no memory.
+pub fn put_in_force(loaded: &mut LoadedFiles, tasks: &mut Stack<Task>, staged: Staged)
+    requires { IsReady loaded.old staged }
+    ensures files { files_of loaded.new ≡ mutated (files_of loaded.old) (call_of staged.change) }
+    ensures outcomes { outcomes_of loaded.new ≡ [] }
+    ensures stale { tasks.new ≡ all_stale tasks.old }
+{
+    apply(loaded, staged);
+    tasks.stale_all();
 }
 
 /// Takes off all tasks. It takes no memory.
