@@ -8,20 +8,34 @@ use Rattle.std.proofs.lemmas.Bool.{and_from, cases_eq, ne_eqb, eq-eqb, and_parts
 use Rattle.ask_history.specs.Journal.{accepted, is_close, is_closed, is_cancelled, is_settled, settles}
 use Rattle.ask_history.specs.declared.answers.Answer.{Answer}
 use Rattle.ask_history.specs.declared.events.Event.{Event}
-use Rattle.ask_history.specs.declared.events.Event.TheVariants.{Cancel}
-use Rattle.ask_history.proofs.Pushes.{list_any-push}
+use Rattle.ask_history.specs.declared.events.Event.TheVariants.{Cancel, Settle}
+use Rattle.ask_history.specs.declared.events.Mark.{Mark}
+use Rattle.ask_history.proofs.Orders.{is_settled-here}
+use Rattle.ask_history.proofs.Pushes.{list_any-push, accepted-push}
 use Rattle.response_cell.specs.declared.cells.Cell.{Cell}
 use Rattle.response_cell.specs.declared.cells.Cell.TheVariants.{Empty, Set, Taken}
 use Rattle.response_cell.specs.Cells.{answer_in, after_take, covered, with_cell, taken}
 use Rattle.work_queue.specs.Queue.{QueueState, cancelling}
 use Rattle.work_queue.specs.declared.limits.Limits.{Limits}
 use Rattle.counting_word.specs.declared.view.Entry.{Entry}
+use Rattle.counting_word.specs.declared.view.Found.TheVariants.{Answered}
 use Rattle.counting_word.specs.History.{journal_of, has}
 use Rattle.counting_word.proofs.Counting.{journal_of-append}
 use Rattle.ask_desk.specs.Answers.{found_answer, answer_of, may_make, is_rightful}
 use Rattle.ask_desk.specs.Locked.{is_blank, IsDesk}
 
 -- ---- one entry more
+
+answer_of-here : (history : List Entry) (t : ℕ) (m : Mark) (author : ℕ) (answer : Answer) → is_settled (journal_of history) t ≡ false
+    → answer_of (history ++ record { event = Settle t m; author = author; found = Answered answer } ∷ []) t ≡ Some answer
+answer_of-here [] t m author answer h = ap (λ b. if b then Some answer else None) (eq-eqb t t refl)
+answer_of-here (first ∷ history) t m author answer h = by (settles t first.event) h (answer_of-here history t m author answer)
+  where
+    by : (b : Bool) → (b || is_settled (journal_of history) t) ≡ false
+        → (is_settled (journal_of history) t ≡ false → answer_of (history ++ record { event = Settle t m; author = author; found = Answered answer } ∷ []) t ≡ Some answer)
+        → (if b then found_answer first.found else answer_of (history ++ record { event = Settle t m; author = author; found = Answered answer } ∷ []) t) ≡ Some answer
+    by true k later = absurd (true≢false k)
+    by false k later = later k
 
 answer_of-other : (history : List Entry) (entry : Entry) (t : ℕ) → settles t entry.event ≡ false → answer_of (history ++ entry ∷ []) t ≡ answer_of history t
 answer_of-other [] entry t h = ap (λ b. if b then found_answer entry.found else None) h
@@ -74,6 +88,11 @@ pub get_same : {A : Type 0} (xs : List A) (i : ℕ) (x y : A) → slice_get xs i
 get_same [] i x y h = absurd cc
 get_same (z ∷ xs) zero x y h = refl
 get_same (z ∷ xs) (suc i) x y h = get_same xs i x y h
+
+get_below : {A : Type 0} (xs : List A) (i : ℕ) → i < length xs → is_some (slice_get xs i) ≡ true
+get_below [] i h = absurd (let no : ⊥ = omega arith in no)
+get_below (x ∷ xs) zero h = refl
+get_below (x ∷ xs) (suc i) h = get_below xs i (omega arith)
 
 taken_other : (cells : List Cell) (t k : ℕ) → k ≢ t → slice_get (taken cells t) k ≡ slice_get cells k
 taken_other cells t k n = by (slice_get cells t)
@@ -160,6 +179,70 @@ module _ (queue : QueueState) (cells : List Cell) (history : List Entry) (given 
           ∙ ap (λ b. if b then None else answer_of history k) (sym (has-same given t) ∙ ap (has (t ∷ given)) (sym e))
       by k (inr n) =
           ap (option_and_then answer_in) (taken_other cells t k n) ∙ desk.held k ∙ ap (λ b. if b then None else answer_of history k) (sym (has-other given t k n))
+
+  -- the cell of an accepted ticket that is not settled is empty
+  pub blank_there : (t : ℕ) → t < accepted (journal_of history) → is_settled (journal_of history) t ≡ false → slice_get cells t ≡ Some Empty
+  blank_there t within unsettled =
+      by (slice_get cells t) (get_below cells t (let c = desk.covered in omega arith)) (desk.blank t unsettled)
+    where
+      by : (o : Option Cell) → is_some o ≡ true → IsTrue (is_blank o) → o ≡ Some Empty
+      by None some blank = absurd (true≢false (sym some))
+      by (Some Empty) some blank = refl
+      by (Some (Set answer)) some blank = absurd (true≢false (sym blank))
+      by (Some Taken) some blank = absurd (true≢false (sym blank))
+
+  pub desk-settle : (next : QueueState) (t : ℕ) (m : Mark) (author : ℕ) (answer : Answer) → next.journal ≡ queue.journal ++ Settle t m ∷ [] → next.limits ≡ queue.limits
+      → has given t ≡ false → is_settled (journal_of history) t ≡ false → t < accepted (journal_of history)
+      → IsTrue (may_make (is_closed (journal_of history)) (Settle t m) author)
+      → IsDesk next (slice_set cells t (Set answer)) (history ++ record { event = Settle t m; author = author; found = Answered answer } ∷ []) given limits
+  desk-settle next t m author answer journal carried fresh unsettled within may =
+      record {
+        journal = same ∙ ap (λ js. js ++ Settle t m ∷ []) desk.journal ∙ sym journal;
+        carried = carried ∙ desk.carried;
+        rightful = rightful-append false history entry desk.rightful may;
+        answered = λ k. answers k (cases_eq k t);
+        covered = let c = desk.covered in omega (arith, length-set cells t (Set answer), ap accepted same, accepted-push (journal_of history) (Settle t m));
+        blank = λ k h. blanks k h (cases_eq k t);
+        held = λ k. holds k (cases_eq k t);
+      }
+    where
+      entry : Entry
+      entry = record { event = Settle t m; author = author; found = Answered answer }
+
+      same : journal_of (history ++ entry ∷ []) ≡ journal_of history ++ Settle t m ∷ []
+      same = journal_of-append history (entry ∷ [])
+
+      other : (k : ℕ) → k ≢ t → settles k (Settle t m) ≡ false
+      other k n = ne_eqb t k (λ e. n (sym e))
+
+      settled_other : (k : ℕ) → k ≢ t → is_settled (journal_of (history ++ entry ∷ [])) k ≡ is_settled (journal_of history) k
+      settled_other k n =
+          ap (λ js. is_settled js k) same ∙ list_any-push (settles k) (journal_of history) (Settle t m)
+          ∙ ap (λ b. is_settled (journal_of history) k || b) (other k n) ∙ or-false (is_settled (journal_of history) k)
+
+      settled_here : (k : ℕ) → k ≡ t → is_settled (journal_of (history ++ entry ∷ [])) k ≡ true
+      settled_here k e = ap (is_settled (journal_of (history ++ entry ∷ []))) e ∙ ap (λ js. is_settled js t) same ∙ is_settled-here (journal_of history) t m
+
+      answer_here : (k : ℕ) → k ≡ t → answer_of (history ++ entry ∷ []) k ≡ Some answer
+      answer_here k e = ap (answer_of (history ++ entry ∷ [])) e ∙ answer_of-here history t m author answer unsettled
+
+      answers : (k : ℕ) → ((k ≡ t) ⊎ (k ≢ t)) → is_some (answer_of (history ++ entry ∷ []) k) ≡ is_settled (journal_of (history ++ entry ∷ [])) k
+      answers k (inl e) = ap is_some (answer_here k e) ∙ sym (settled_here k e)
+      answers k (inr n) = ap is_some (answer_of-other history entry k (other k n)) ∙ desk.answered k ∙ sym (settled_other k n)
+
+      blanks : (k : ℕ) → is_settled (journal_of (history ++ entry ∷ [])) k ≡ false → ((k ≡ t) ⊎ (k ≢ t)) → IsTrue (is_blank (slice_get (slice_set cells t (Set answer)) k))
+      blanks k h (inl e) = absurd (true≢false (sym (settled_here k e) ∙ h))
+      blanks k h (inr n) = subst (λ o. IsTrue (is_blank o)) (sym (get_other cells t k (Set answer) n)) (desk.blank k (sym (settled_other k n) ∙ h))
+
+      holds : (k : ℕ) → ((k ≡ t) ⊎ (k ≢ t))
+          → option_and_then answer_in (slice_get (slice_set cells t (Set answer)) k) ≡ (if has given k then None else answer_of (history ++ entry ∷ []) k)
+      holds k (inl e) =
+          ap (λ n. option_and_then answer_in (slice_get (slice_set cells t (Set answer)) n)) e
+          ∙ ap (option_and_then answer_in) (get_same cells t (Set answer) Empty (blank_there t within unsettled))
+          ∙ sym (ap (λ b. if b then None else answer_of (history ++ entry ∷ []) k) (ap (has given) e ∙ fresh) ∙ answer_here k e)
+      holds k (inr n) =
+          ap (option_and_then answer_in) (get_other cells t k (Set answer) n) ∙ desk.held k
+          ∙ ap (λ o. if has given k then None else o) (sym (answer_of-other history entry k (other k n)))
 
   -- an answer that can be taken is that of a settling, and was not given yet
   pub settled_there : (t : ℕ) (answer : Answer) → option_and_then answer_in (slice_get cells t) ≡ Some answer

@@ -13,6 +13,7 @@ use Rattle.work_queue.specs.Queue.{QueueState}
 use Rattle.work_queue.specs.declared.limits.Limits.{Limits}
 use Rattle.counting_word.specs.declared.view.Entry.{Entry}
 use Rattle.counting_word.specs.declared.view.Found.TheVariants.{Nothing}
+use Rattle.counting_word.specs.declared.view.Name.{Name}
 use Rattle.counting_word.specs.declared.view.View.{View}
 use Rattle.counting_word.specs.History.{journal_of, taker_of, has}
 use Rattle.counting_word.specs.Views.{appended, loaded}
@@ -20,10 +21,11 @@ use Rattle.counting_word.specs.Calls.{entry_of, TakesLead, GivesLead, leading, f
 use Rattle.counting_word.specs.Steps.{Learns}
 use Rattle.counting_word.proofs.Beginnings.{begins-trans, length-begins}
 use Rattle.counting_word.proofs.Counting.{journal_of-append}
-use Rattle.ask_desk.specs.Answers.{written, entries_for}
+use Rattle.ask_desk.specs.Answers.{written, entries_for, caller_entry, closing}
+use Rattle.work_queue.specs.Indexes.{close_index}
 use Rattle.ask_desk.specs.Facts.{IsPass}
 use Rattle.ask_desk.specs.Locked.{IsDesk}
-use Rattle.ask_desk.specs.Passes.{Writes, Accepts}
+use Rattle.ask_desk.specs.Passes.{Writes, Accepts, Closes}
 use Rattle.ask_history.specs.declared.events.Event.TheVariants.{Accept}
 use Rattle.work_queue.specs.Refusal.{refusal}
 use Rattle.std.specs.Prelude.{unwrap_or}
@@ -32,28 +34,37 @@ use Rattle.std.proofs.lemmas.Bool.{eq-eqb}
 pub written-seen : (view : View) (events : List Event) → (written view events).seen ≡ view.seen ++ entries_for view.name events
 written-seen view [] = sym (append-nil view.seen)
 written-seen view (event ∷ events) =
-    written-seen (appended view (entry_of view.name event Nothing)) events
-    ∙ append_assoc view.seen (entry_of view.name event Nothing ∷ []) (entries_for view.name events)
+    written-seen (appended view (caller_entry view.name event)) events
+    ∙ append_assoc view.seen (caller_entry view.name event ∷ []) (entries_for view.name events)
 
 pub written-own : (view : View) (events : List Event) → (written view events).name.own ≡ view.name.own ++ entries_for view.name events
 written-own view [] = sym (append-nil view.name.own)
 written-own view (event ∷ events) =
-    written-own (appended view (entry_of view.name event Nothing)) events
-    ∙ append_assoc view.name.own (entry_of view.name event Nothing ∷ []) (entries_for view.name events)
+    written-own (appended view (caller_entry view.name event)) events
+    ∙ append_assoc view.name.own (caller_entry view.name event ∷ []) (entries_for view.name events)
+
+entries_for-events : (name : Name) (events : List Event) → journal_of (entries_for name events) ≡ events
+entries_for-events name [] = refl
+entries_for-events name (event ∷ events) = ap (λ es. event ∷ es) (entries_for-events name events)
+
+pub written-journal : (view : View) (events : List Event) → journal_of (written view events).seen ≡ journal_of view.seen ++ events
+written-journal view events =
+    ap journal_of (written-seen view events) ∙ journal_of-append view.seen (entries_for view.name events)
+    ∙ ap (λ es. journal_of view.seen ++ es) (entries_for-events view.name events)
 
 -- what writing leaves
-record Leaves (old new : View) : Type 0 where
-  leads : new.leads ≡ old.leads
-  loads : new.loads ≡ old.loads
-  number : new.name.number ≡ old.name.number
-  got : new.name.got ≡ old.name.got
-  given : new.name.given ≡ old.name.given
-  made : new.name.made ≡ old.name.made
+pub record Leaves (old new : View) : Type 0 where
+  pub leads : new.leads ≡ old.leads
+  pub loads : new.loads ≡ old.loads
+  pub number : new.name.number ≡ old.name.number
+  pub got : new.name.got ≡ old.name.got
+  pub given : new.name.given ≡ old.name.given
+  pub made : new.name.made ≡ old.name.made
 
-written-leaves : (view : View) (events : List Event) → Leaves view (written view events)
+pub written-leaves : (view : View) (events : List Event) → Leaves view (written view events)
 written-leaves view [] = record { leads = refl; loads = refl; number = refl; got = refl; given = refl; made = refl }
 written-leaves view (event ∷ events) =
-    let l = written-leaves (appended view (entry_of view.name event Nothing)) events in
+    let l = written-leaves (appended view (caller_entry view.name event)) events in
     record { leads = l.leads; loads = l.loads; number = l.number; got = l.got; given = l.given; made = l.made }
 
 -- what is settled in a beginning is settled in what follows it
@@ -223,3 +234,18 @@ accepts_call limits old scribe led done new next number ticket tag call pass tak
         settled-begins old.seen led.seen ticket (subst (IsPrefix old.seen) (sym (ap (λ (v : View). v.seen) takes.view)) takes.begins) in_old in
         absurd (true≢false (sym (settled_accepted (journal_of led.seen) takes.knows.legal ticket in_led) ∙ next_unaccepted (journal_of led.seen) takes.knows.legal ticket (omega arith)))
     unheld false e = e
+
+-- a shutdown
+pub closes_call : (old scribe led done new next : View) (index : ℕ) → TakesLead old scribe led → done ≡ written led (closing (journal_of led.seen)) → GivesLead done new next
+    → close_index (journal_of done.seen) ≡ Some index
+    → ((ticket : ℕ) → ticket < accepted (journal_of done.seen) → is_settled (journal_of done.seen) ticket ≡ true)
+    → Closes old new index
+closes_call old scribe led done new next index takes did gives there settled =
+    let seen : led.seen ≡ scribe.seen = ap (λ (v : View). v.seen) takes.view in
+    let same : done.seen ≡ new.seen = sym (ap (λ (v : View). v.seen) gives.view) in
+    record {
+      before = scribe.seen;
+      writes = writes old scribe led done new next (closing (journal_of scribe.seen)) takes (did ∙ ap (λ es. written led (closing (journal_of es))) seen) gives;
+      index = ap (λ es. close_index (journal_of es)) (sym same) ∙ there;
+      settled = subst (λ (es : List Entry). (ticket : ℕ) → ticket < accepted (journal_of es) → is_settled (journal_of es) ticket ≡ true) same settled;
+    }

@@ -1,7 +1,9 @@
 -- What a history says of the answers of its calls, and of who may make which event.
 use Rattle.std.specs.Prelude.{ℕ, Bool, true, ◌&&◌, ◌||◌, ◌==◌, if◌then◌else◌, List, [], ◌∷◌, map, Option, Some, None}
-use Rattle.ask_history.specs.Journal.{settles, is_close}
+use Rattle.ask_history.specs.Journal.{settles, is_close, is_closed}
+use Rattle.ask_history.specs.Closing.{open_tickets, settled}
 use Rattle.ask_history.specs.declared.answers.Answer.{Answer}
+use Rattle.ask_history.specs.declared.answers.Answer.TheVariants as answer
 use Rattle.ask_history.specs.declared.events.Event.{Event}
 use Rattle.ask_history.specs.declared.events.Event.TheVariants.{Accept, Cancel, Close, Settle, Checked}
 use Rattle.counting_word.specs.declared.view.Entry.{Entry}
@@ -37,11 +39,26 @@ abbrev pub is_rightful : Bool → List Entry → Bool
 is_rightful closed [] = true
 is_rightful closed (entry ∷ history) = may_make closed entry.event entry.author && is_rightful (closed || is_close entry.event) history
 
--- a view that has put these events, which found nothing, behind what it had seen
+-- what an event finds that a caller makes: a settling, which a caller makes at the shutdown alone, has the answer Closed
+abbrev pub callers_find : Event → Found
+callers_find (Settle ticket mark) = Answered answer.Closed
+callers_find (Accept ticket client tag call) = Nothing
+callers_find (Cancel ticket) = Nothing
+callers_find Close = Nothing
+callers_find (Checked file) = Nothing
+
+abbrev pub caller_entry : Name → Event → Entry
+caller_entry name event = entry_of name event (callers_find event)
+
+-- a view that has put these events of a caller behind what it had seen
 abbrev pub written : View → List Event → View
 written view [] = view
-written view (event ∷ events) = written (appended view (entry_of view.name event Nothing)) events
+written view (event ∷ events) = written (appended view (caller_entry view.name event)) events
 
--- the entries of these events, in this name
+-- the entries of these events of a caller, in this name
 abbrev pub entries_for : Name → List Event → List Entry
-entries_for name events = map (λ event. entry_of name event Nothing) events
+entries_for name events = map (caller_entry name) events
+
+-- what a shutdown appends: Close where none stands, and then the settlings of the open tickets
+abbrev pub closing : List Event → List Event
+closing journal = if is_closed journal then [] else Close ∷ settled (open_tickets journal)

@@ -29,3 +29,11 @@ pub record IsDesk (queue : QueueState) (cells : List Cell) (history : List Entry
   pub covered : accepted (journal_of history) ≤ length cells
   pub blank : (ticket : ℕ) → is_settled (journal_of history) ticket ≡ false → IsTrue (is_blank (slice_get cells ticket))
   pub held : (ticket : ℕ) → option_and_then answer_in (slice_get cells ticket) ≡ (if has given ticket then None else answer_of history ticket)
+
+-- the queue's state that a history tells
+abbrev pub told : List Entry → Limits → QueueState
+told history limits = record { journal = journal_of history; limits = limits; given = 0 }
+
+-- Every ticket that was given is settled.
+abbrev pub AreSettled : List ℕ → List Entry → Type 0
+AreSettled given history = (ticket : ℕ) → IsTrue (has given ticket) → IsTrue (is_settled (journal_of history) ticket)

@@ -1,5 +1,5 @@
 -- What the calls of a desk do to the pass that makes them.
-use Rattle.std.specs.Prelude.{◌≡◌, ◌⊎◌, ℕ, ◌<◌, ◌≤◌, false, List, [], ◌∷◌, ◌++◌, length, Some, None, unwrap_or}
+use Rattle.std.specs.Prelude.{◌≡◌, ◌⊎◌, ℕ, ◌<◌, ◌≤◌, true, false, List, [], ◌∷◌, ◌++◌, length, Some, None, unwrap_or}
 use mathlib.Core.List.{IsPrefix}
 use Rattle.ask_history.specs.Journal.{accepted, is_settled}
 use Rattle.ask_history.specs.declared.calls.Call.{Call}
@@ -15,7 +15,8 @@ use Rattle.work_queue.specs.Queue.{cancel_seen, cancelling}
 use Rattle.counting_word.specs.declared.view.Entry.{Entry}
 use Rattle.counting_word.specs.declared.view.View.{View}
 use Rattle.counting_word.specs.History.{journal_of, taker_of, has}
-use Rattle.ask_desk.specs.Answers.{answer_of, entries_for}
+use Rattle.work_queue.specs.Indexes.{close_index}
+use Rattle.ask_desk.specs.Answers.{answer_of, entries_for, closing}
 
 -- A call under the lock: the pass has seen more of the history, as much as the word said when it looked, and no less than
 -- it knew of the word before. It keeps its number.
@@ -45,7 +46,7 @@ pub record Accepts (limits : Limits) (old new : View) (ticket tag : ℕ) (call :
   pub mine : taker_of new.seen ticket ≡ new.name.number
   pub fresh : has new.name.got ticket ≡ false
 
--- A call is refused for what the pass has then seen, or because memory ran out.
+-- A call is refused for what the pass has then seen, or out of memory.
 pub record Refuses (limits : Limits) (old new : View) (why : PostRefused) (call : Call) : Type 0 where
   pub writes : Writes old new.seen [] new
   pub cause : (why ≡ NoMemory) ⊎ (refusal limits (journal_of new.seen) call ≡ Some why)
@@ -56,6 +57,13 @@ pub record Cancels (old new : View) (ticket : ℕ) (result : CancelSeen) : Type 
   pub writes : Writes old before (cancelling (journal_of before) ticket) new
   pub seen : result ≡ cancel_seen (journal_of before) ticket
 
+-- The session is shut down at this journal index. Every accepted ticket is settled in what the pass has then seen.
+pub record Closes (old new : View) (at : ℕ) : Type 0 where
+  pub before : List Entry
+  pub writes : Writes old before (closing (journal_of before)) new
+  pub index : close_index (journal_of new.seen) ≡ Some at
+  pub settled : (ticket : ℕ) → ticket < accepted (journal_of new.seen) → is_settled (journal_of new.seen) ticket ≡ true
+
 -- The answer of the ticket's settling is handed out, for the first time.
 pub record Receives (old new : View) (ticket : ℕ) (answer : Answer) : Type 0 where
   pub moves : Moves old new
@@ -63,7 +71,8 @@ pub record Receives (old new : View) (ticket : ℕ) (answer : Answer) : Type 0 w
   pub got : new.name.got ≡ ticket ∷ old.name.got
   pub answer_seen : answer_of new.seen ticket ≡ Some answer
 
--- No settling of the ticket stands in what the pass has then seen.
+-- No settling of the ticket stands in what the pass has then seen. The ticket is still the pass's.
 pub record FindsNone (old new : View) (ticket : ℕ) : Type 0 where
   pub writes : Writes old new.seen [] new
   pub unsettled : is_settled (journal_of new.seen) ticket ≡ false
+  pub mine : taker_of new.seen ticket ≡ new.name.number

@@ -1,6 +1,7 @@
 //! The thin layer that takes the lock, applies a change of the locked state, and lets go.
-ghost use Rattle.std.specs.Prelude.{◌≡◌, ℕ, ◌<◌, ◌+◌, ◌^◌, length, Some, is_some, IsTrue, IfOk, IfErr, false};
+ghost use Rattle.std.specs.Prelude.{◌≡◌, ℕ, ◌<◌, ◌+◌, ◌^◌, length, Some, is_some, IsTrue, IfOk, IfErr, true, false};
 ghost use mathlib.Core.List.{IsPrefix};
+ghost use Rattle.ask_history.specs.Engine.{has_file_names};
 ghost use Rattle.ask_history.specs.Legal.{is_legal};
 ghost use Rattle.work_queue.specs.Refusal.{IsWithin};
 ghost use Rattle.work_queue.specs.Reloads.{reloaded_by};
@@ -8,12 +9,12 @@ ghost use Rattle.counting_word.specs.History.{journal_of, taker_of, has, engine_
 ghost use Rattle.counting_word.specs.Calls.{Meets};
 ghost use Rattle.counting_word.specs.Views.{loaded, first_view, after_scribe, client_of, after_client};
 ghost use Rattle.counting_word.specs.Steps.{Learns};
-ghost use Rattle.ask_desk.specs.Passes.{Accepts, Refuses, Cancels};
+ghost use Rattle.ask_desk.specs.Passes.{Accepts, Refuses, Cancels, Closes, Receives};
 ghost use Rattle.ask_desk.specs.Results.{Tries};
 
 use crate::locked::{Locked, Tried};
 use crate::pass::{EnginePass, Pass, Ticket, meet};
-use ask_history::{Call, Journal};
+use ask_history::{Answer, Call, Journal};
 use counting_word::{Counter, Opened, Room};
 use pc_terms::NoMemory;
 use response_cell::Cells;
@@ -27,9 +28,10 @@ const ENGINE: u64 = 1 << 32;
 /// One history, which callers of any number add to and wait on.
 #[derive(Drop)]
 pub struct Desk<B: Room> {
-    counter: Counter<B>,
-    locked: Mutex<Locked<B>>,
-    settled: Condvar,
+    pub(crate) counter: Counter<B>,
+    pub(crate) locked: Mutex<Locked<B>>,
+    pub(crate) posted: Condvar,
+    pub(crate) settled: Condvar,
 }
 
 impl<B: Room> Desk<B> {
@@ -56,6 +58,7 @@ impl<B: Room> Desk<B> {
         let desk = Desk {
             counter,
             locked: Mutex::new(locked),
+            posted: Condvar::new(),
             settled: Condvar::new(),
         };
         Ok((desk, EnginePass { pass, made: 0 }))
@@ -84,6 +87,7 @@ impl<B: Room> Desk<B> {
         let Desk {
             counter,
             locked,
+            posted: _,
             settled: _,
         } = self;
         let EnginePass { pass, made: _ } = engine;
@@ -99,13 +103,17 @@ impl<B: Room> Desk<B> {
         tag: u64,
         call: Call,
     ) -> Result<Ticket<B>, (PostRefused, Call)>
-        requires { length (reloaded_by call) < 2 ^ 32 }
+        requires few { length (reloaded_by call) < 2 ^ 32 }
+        requires names { has_file_names call ≡ true }
         ensures ok { IfOk result (λ ticket. Accepts B.limits pass.old pass.new ticket.ticket tag call) }
         ensures refused { IfErr result (λ back. (back.1 ≡ call) × Refuses B.limits pass.old pass.new back.0 call) }
     {
-        self.locked
+        let posted = self
+            .locked
             .lock(rt)
-            .post(alloc, &self.counter, pass, tag, call)
+            .post(alloc, &self.counter, pass, tag, call);
+        self.posted.notify_all();
+        posted
     }
 
     /// Cancels the call of a ticket, unless it is settled. It takes no memory.
@@ -125,6 +133,37 @@ impl<B: Room> Desk<B> {
         self.locked
             .lock(rt)
             .try_receive(&self.counter, pass, ticket)
+    }
+
+    /// Waits for the answer of a ticket, until its settling stands. It takes no memory.
+    pub fn receive<R: Wait>(&self, rt: &R, pass: &mut Pass<B>, ticket: Ticket<B>) -> Answer
+        requires mine { taker_of pass.old.seen ticket.ticket ≡ pass.old.name.number }
+        requires first { has pass.old.name.got ticket.ticket ≡ false }
+        ensures { Receives pass.old pass.new ticket.ticket result }
+    {
+        let mut ticket = ticket;
+        let mut locked = self.locked.lock(rt);
+        for _ in rt.forever() {
+            match locked.try_receive(&self.counter, pass, ticket) {
+                Tried::Got(answer) => return answer,
+                Tried::NotYet(back) => {
+                    ticket = back;
+                    locked = self.settled.wait(rt, locked);
+                }
+            }
+        }
+        unreachable!()
+    }
+
+    /// Shuts the session down, unless it is shut down, settles all open tickets, and wakes all that wait. Gives the
+    /// journal index of the shutdown. It takes no memory.
+    pub fn close<R: Wait>(&self, rt: &R, pass: &mut Pass<B>) -> u64
+        ensures { Closes pass.old pass.new result }
+    {
+        let index = self.locked.lock(rt).close(&self.counter, pass);
+        self.posted.notify_all();
+        self.settled.notify_all();
+        index
     }
 
     /// How many events the history has. It takes no lock and waits for nobody.

@@ -3,9 +3,11 @@
 
 mod books;
 mod desk;
+mod driving;
 mod locked;
 mod pass;
 
 pub use desk::Desk;
+pub use driving::{CheckNoted, News};
 pub use locked::{Locked, Tried};
 pub use pass::{EnginePass, Pass, Ticket};

@@ -1,11 +1,12 @@
 //! The desk's state under its lock.
 ghost use Rattle.std.specs.Prelude.{◌≡◌, ◌⊎◌, ℕ, ◌<◌, ◌+◌, ◌^◌, ◌++◌, ◌∷◌, [], length, Some, None, is_some, IsTrue, IfOk, IfErr, OnOk, OnErr, true, false};
 ghost use mathlib.Core.List.{IsPrefix};
+ghost use Rattle.ask_history.specs.Engine.{has_file_names};
 ghost use Rattle.ask_history.specs.Legal.{is_legal};
 ghost use Rattle.work_queue.specs.Reloads.{reloaded_by};
 ghost use Rattle.counting_word.specs.Views.{first_view, after_scribe};
 ghost use Rattle.counting_word.specs.History.{journal_of, taker_of, has};
-ghost use Rattle.ask_desk.specs.Passes.{Accepts, Refuses, Cancels, Receives, FindsNone};
+ghost use Rattle.ask_desk.specs.Passes.{Accepts, Refuses, Cancels, Closes};
 ghost use Rattle.ask_desk.specs.Results.{Tries};
 
 use crate::books::Books;
@@ -20,8 +21,8 @@ use work_queue::{CancelSeen, PostRefused, Queue};
 /// What lies under the lock: the queue, the cells and the seat that leads between calls. Contracts see that seat's view.
 #[derive(Drop)]
 pub struct Locked<B: Room> {
-    books: Books,
-    scribe: Seat<B>,
+    pub(crate) books: Books,
+    pub(crate) scribe: Seat<B>,
 }
 
 impl<B: Room> Model for Locked<B> {
@@ -91,7 +92,8 @@ impl<B: Room> Locked<B> {
         tag: u64,
         call: Call,
     ) -> Result<Ticket<B>, (PostRefused, Call)>
-        requires { length (reloaded_by call) < 2 ^ 32 }
+        requires few { length (reloaded_by call) < 2 ^ 32 }
+        requires names { has_file_names call ≡ true }
         ensures ok { IfOk result (λ ticket. Accepts B.limits pass.old pass.new ticket.ticket tag call) }
         ensures refused { IfErr result (λ back. (back.1 ≡ call) × Refuses B.limits pass.old pass.new back.0 call) }
     {
@@ -129,6 +131,17 @@ impl<B: Room> Locked<B> {
         let seen = self.books.cancel(counter, &mut pass.seat, ticket.ticket);
         counter.give_lead(&mut pass.seat, &mut self.scribe);
         seen
+    }
+
+    /// Shuts the session down, unless it is shut down, and settles all open tickets. Gives the journal index of the shutdown. It
+    /// takes no memory.
+    pub fn close(&mut self, counter: &Counter<B>, pass: &mut Pass<B>) -> u64
+        ensures closes { Closes pass.old pass.new result }
+    {
+        counter.take_lead(&mut pass.seat, &mut self.scribe);
+        let index = self.books.close(counter, &mut pass.seat);
+        counter.give_lead(&mut pass.seat, &mut self.scribe);
+        index
     }
 
     /// The answer of a ticket, where its settling stands. It takes no memory.

@@ -1,4 +1,5 @@
 //! What callers hold: passes and tickets.
+ghost use Rattle.std.specs.Borrow.{sem};
 ghost use Rattle.std.specs.Prelude.{◌≡◌, ◌<◌, ℕ, Some};
 ghost use Rattle.counting_word.specs.Views.{loaded, client_of, after_client};
 ghost use Rattle.counting_word.specs.History.{engine_number};
@@ -68,6 +69,18 @@ pub(crate) fn meet<B: Room>(counter: &Counter<B>, one: &mut Pass<B>, other: &mut
 pub struct EnginePass<B: Room> {
     pub(crate) pass: Pass<B>,
     pub(crate) made: u64,
+}
+
+impl<B: Room> EnginePass<B> {
+    ghost use Rattle.ask_desk.specs.Lending.{LendsPass};
+
+    /// The pass that it holds.
+    pub fn as_pass(&mut self) -> &mut Pass<B>
+        ensures* writes_back { sem 𝓛 (LendsPass B.row B.Room self.entry result) }
+        ensures value { result.now ≡ self.old.pass }
+    {
+        &mut self.pass
+    }
 }
 
 /// The right to one answer. It cannot be copied.

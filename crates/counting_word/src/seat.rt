@@ -1,5 +1,5 @@
 //! Seats at the table that has the word, and their steps.
-ghost use Rattle.std.specs.Prelude.{◌≡◌, ℕ, ◌≤◌, ◌<◌, ◌+◌, ◌^◌, ◌⊎◌, true, false, length, Some, is_some, [], ◌∷◌, ◌++◌, IsTrue, IfOk};
+ghost use Rattle.std.specs.Prelude.{◌≡◌, ℕ, ◌≤◌, ◌<◌, ◌+◌, ◌^◌, ◌⊎◌, true, false, length, Some, is_some, unwrap_or, [], ◌∷◌, ◌++◌, IsTrue, IfOk};
 ghost use mathlib.Core.List.{IsPrefix};
 ghost use Rattle.ask_history.specs.Journal.{is_settled};
 ghost use Rattle.ask_history.specs.Legal.{is_legal};
@@ -7,7 +7,7 @@ ghost use Rattle.counting_word.specs.History.{journal_of, taker_of, engine_numbe
 ghost use Rattle.counting_word.specs.Views.{first_view, loaded, handed, appended, client_of, after_client, note_of, joined, scribe_of, after_scribe};
 ghost use Rattle.counting_word.specs.Steps.{Learns};
 ghost use Rattle.counting_word.specs.Calls.{entry_of, Meets, TakesLead, GivesLead};
-ghost use Rattle.counting_word.specs.declared.view.Found.TheVariants.{Nothing, Answered};
+ghost use Rattle.counting_word.specs.declared.view.Found.TheVariants.{Nothing, Answered, Problems};
 
 use crate::rule::{
     Append, Both, Client, CountingWord, HandOut, Handing, Load, Note, Scribe, Writing,
@@ -15,7 +15,7 @@ use crate::rule::{
 use crate::view::View;
 use ask_history::{Answer, Event};
 use atomic_table::Table;
-use pc_terms::NoMemory;
+use pc_terms::{NoMemory, Problem, Row};
 use std::alloc::Global;
 use std::marker::{Brand, Model, PhantomData};
 use std::mem;
@@ -210,20 +210,7 @@ impl<B: Room> Counter<B> {
         requires legal { IsTrue (is_legal (journal_of seat.old.seen ++ event.now ∷ [])) }
         ensures { seat.new ≡ appended seat.old (entry_of seat.old.name event.now Nothing) }
     {
-        self.write::<Brand>(seat, event);
-    }
-
-    fn write<W: Writing>(&self, seat: &mut Seat<B>, event: &Event)
-        requires leads { seat.old.leads ≡ true }
-        requires named { IsTrue (is_some seat.old.name.number) }
-        requires room { length seat.old.seen + 1 < 2 ^ 64 }
-        requires legal { IsTrue (is_legal (journal_of seat.old.seen ++ event.now ∷ [])) }
-        requires entry { W.entry ≡ entry_of seat.old.name event.now Nothing }
-        ensures { seat.new ≡ appended seat.old W.entry }
-    {
-        self.words
-            .shared
-            .fetch_add::<Append<W>>(&mut seat.seat, 0, 1);
+        self.write::<Brand, _>(seat, event, &());
     }
 
     /// Puts the settling of a call in the seat's own name behind the history, with the call's answer.
@@ -234,15 +221,28 @@ impl<B: Room> Counter<B> {
         requires legal { IsTrue (is_legal (journal_of seat.old.seen ++ event.now ∷ [])) }
         ensures { seat.new ≡ appended seat.old (entry_of seat.old.name event.now (Answered answer.now)) }
     {
-        self.write_answer::<Brand>(seat, event, answer);
+        self.write::<Brand, _>(seat, event, answer);
     }
 
-    fn write_answer<W: Writing>(&self, seat: &mut Seat<B>, event: &Event, answer: &Answer)
+    /// Puts a check in the seat's own name behind the history, with the problems that it found.
+    pub fn append_check(&self, seat: &mut Seat<B>, event: &Event, problems: &Row<Problem>)
         requires leads { seat.old.leads ≡ true }
         requires named { IsTrue (is_some seat.old.name.number) }
         requires room { length seat.old.seen + 1 < 2 ^ 64 }
         requires legal { IsTrue (is_legal (journal_of seat.old.seen ++ event.now ∷ [])) }
-        requires entry { W.entry ≡ entry_of seat.old.name event.now (Answered answer.now) }
+        ensures { seat.new ≡ appended seat.old (entry_of seat.old.name event.now (Problems problems.now)) }
+    {
+        self.write::<Brand, _>(seat, event, problems);
+    }
+
+    /// Puts an entry behind the history. What the event found is passed on so that each caller picks the entry by it.
+    fn write<W: Writing, F>(&self, seat: &mut Seat<B>, event: &Event, _found: &F)
+        requires leads { seat.old.leads ≡ true }
+        requires named { IsTrue (is_some seat.old.name.number) }
+        requires room { length seat.old.seen + 1 < 2 ^ 64 }
+        requires legal { IsTrue (is_legal (journal_of seat.old.seen ++ event.now ∷ [])) }
+        requires event { W.entry.event ≡ event.now }
+        requires author { W.entry.author ≡ unwrap_or seat.old.name.number 0 }
         ensures { seat.new ≡ appended seat.old W.entry }
     {
         self.words

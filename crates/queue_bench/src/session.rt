@@ -1,6 +1,7 @@
-ghost use Rattle.std.specs.Prelude.{◌≡◌, ℕ, ◌<◌, ◌^◌, length, IfOk, IsTrue, false};
+ghost use Rattle.std.specs.Prelude.{◌≡◌, ℕ, ◌<◌, ◌^◌, length, IfOk, IsTrue, true, false};
 ghost use Rattle.ask_history.specs.Journal.{is_settled};
 ghost use Rattle.ask_history.specs.Legal.{is_legal};
+ghost use Rattle.ask_history.specs.Engine.{has_file_names};
 ghost use Rattle.work_queue.specs.Reloads.{reloaded_by};
 
 use ask_history::{Answer, Call, Effect};
@@ -85,6 +86,7 @@ fn post_all(alloc: Global, queue: &mut Queue, rounds: u64) -> Result<u64, NoMemo
 /// Posts a call, cancels it at once if that is wanted, and gives the number of calls that are refused.
 fn post(queue: &mut Queue, call: Call, cancels: bool) -> u64
     requires few { length (reloaded_by call) < 2 ^ 32 }
+    requires names { has_file_names call ≡ true }
     requires unsettled { (ticket : ℕ) → is_settled queue.old.journal ticket ≡ false }
     requires legal { IsTrue (is_legal queue.old.journal) }
     ensures unsettled { (ticket : ℕ) → is_settled queue.new.journal ticket ≡ false }
@@ -102,7 +104,8 @@ fn post(queue: &mut Queue, call: Call, cancels: bool) -> u64
 }
 
 fn reload(alloc: Global) -> Result<Call, NoMemory>
-    ensures { IfOk result (λ call. length (reloaded_by call) < 2 ^ 32) }
+    ensures few { IfOk result (λ call. length (reloaded_by call) < 2 ^ 32) }
+    ensures names { IfOk result (λ call. has_file_names call ≡ true) }
 {
     let mut entries = Row::new(alloc);
     let name = Text::new(alloc, "A.scala")?;
@@ -111,7 +114,8 @@ fn reload(alloc: Global) -> Result<Call, NoMemory>
 }
 
 fn ask(alloc: Global) -> Result<Call, NoMemory>
-    ensures { IfOk result (λ call. length (reloaded_by call) < 2 ^ 32) }
+    ensures few { IfOk result (λ call. length (reloaded_by call) < 2 ^ 32) }
+    ensures names { IfOk result (λ call. has_file_names call ≡ true) }
 {
     Ok(Call::TypeAt(Text::new(alloc, "A.scala")?, 19))
 }

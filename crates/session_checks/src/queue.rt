@@ -1,6 +1,7 @@
 ghost use Rattle.std.specs.Prelude.{◌≡◌, ◌≤◌, ◌++◌, ◌∷◌, [], length, IfOk, IsTrue, true, false};
 ghost use Rattle.ask_history.specs.Journal.{accepted, is_settled};
 ghost use Rattle.ask_history.specs.Legal.{is_legal};
+ghost use Rattle.ask_history.specs.Engine.{has_file_names, is_file_name};
 ghost use Rattle.ask_history.specs.declared.events.Event.TheVariants.{Accept};
 ghost use Rattle.work_queue.specs.Reloads.{reloaded_by};
 ghost use Rattle.work_queue.specs.Refusal.{IsWithin};
@@ -25,7 +26,9 @@ const A: &str = "object A { val x = 1 }";
 const B: &str = "object B { val a = b; val b = 1 }";
 
 fn reload(alloc: Global, name: &str, text: &str) -> Result<Call, NoMemory>
-    ensures { IfOk result (λ call. length (reloaded_by call) ≤ 1) }
+    requires { is_file_name name.now ≡ true }
+    ensures few { IfOk result (λ call. length (reloaded_by call) ≤ 1) }
+    ensures names { IfOk result (λ call. has_file_names call ≡ true) }
 {
     let mut entries = Row::new(alloc);
     entries.push((Text::new(alloc, name)?, Text::new(alloc, text)?))?;
@@ -33,7 +36,9 @@ fn reload(alloc: Global, name: &str, text: &str) -> Result<Call, NoMemory>
 }
 
 fn type_at(alloc: Global, name: &str, offset: u32) -> Result<Call, NoMemory>
-    ensures { IfOk result (λ call. length (reloaded_by call) ≤ 1) }
+    requires { is_file_name name.now ≡ true }
+    ensures few { IfOk result (λ call. length (reloaded_by call) ≤ 1) }
+    ensures names { IfOk result (λ call. has_file_names call ≡ true) }
 {
     Ok(Call::TypeAt(Text::new(alloc, name)?, offset))
 }
@@ -72,7 +77,8 @@ fn second_refused(
     name: &str,
     text: &str,
 ) -> Result<Option<PostRefused>, NoMemory>
-    requires { IsWithin limits }
+    requires within { IsWithin limits }
+    requires name { is_file_name name.now ≡ true }
 {
     let first = reload(alloc, "A.scala", A)?;
     let second = reload(alloc, name, text)?;
@@ -82,7 +88,8 @@ fn second_refused(
 }
 
 fn why_refused(queue: &mut Queue, call: Call) -> Option<PostRefused>
-    requires { length (reloaded_by call) ≤ 1 }
+    requires few { length (reloaded_by call) ≤ 1 }
+    requires names { has_file_names call ≡ true }
 {
     match queue.post(0, 1, call) {
         Ok(_) => None,
@@ -146,7 +153,8 @@ fn full(alloc: Global) -> Result<Queue, NoMemory> {
 }
 
 fn post(queue: &mut Queue, tag: u64, call: Call) -> Result<u64, NoMemory>
-    requires { length (reloaded_by call) ≤ 1 }
+    requires few { length (reloaded_by call) ≤ 1 }
+    requires names { has_file_names call ≡ true }
     ensures ticket { IfOk result (λ ticket. ticket ≡ accepted queue.old.journal) }
     ensures ok { IfOk result (λ ticket. queue.new.journal ≡ queue.old.journal ++ Accept ticket 0 tag call ∷ []) }
     ensures legal { IsTrue (is_legal queue.new.journal) }
@@ -273,7 +281,9 @@ fn a_mutation_without_memory_is_dropped(rt: HostRuntime) -> Result<(), Fail> {
 }
 
 /// A file that is loaded, and then checked.
-fn checked(alloc: Global, name: &str, text: &str) -> Result<Queue, NoMemory> {
+fn checked(alloc: Global, name: &str, text: &str) -> Result<Queue, NoMemory>
+    requires { is_file_name name.now ≡ true }
+{
     let mut queue = Queue::new(alloc, ALL)?;
     let entry = (Text::new(alloc, name)?, Text::new(alloc, text)?);
     let mut entries = Row::new(alloc);

@@ -8,7 +8,7 @@ use Rattle.std.proofs.lemmas.List.Concat.{flat_map-append}
 use Rattle.std.proofs.lemmas.List.Sums.{sum_by-append}
 use Rattle.ask_history.specs.Sources.{Bytes}
 use Rattle.ask_history.specs.Journal.{accepted, is_accept, is_close, is_closed, is_cancelled, is_settled, is_open, call_of, call_under, first_of_two}
-use Rattle.ask_history.specs.Engine.{HasFileSizes}
+use Rattle.ask_history.specs.Engine.{HasFileSizes, has_file_names}
 use Rattle.ask_history.specs.Legal.{is_legal, may_follow}
 use Rattle.ask_history.specs.declared.calls.Call.{Call}
 use Rattle.ask_history.specs.declared.events.Mark.TheVariants as mark
@@ -63,6 +63,7 @@ module _ (old : Inside) (kept : IsQueue old) where
         within = kept.within;
         tally = subst (λ es. IsTally es old.tally) (sym entries) kept.tally;
         sizes = λ t call there. kept.sizes t call (sym (calls_same t) ∙ there);
+        named = λ t call there. kept.named t call (sym (calls_same t) ∙ there);
         calls = omega arith;
         text = kept.text;
         names = kept.names;
@@ -151,6 +152,7 @@ module _ (old : Inside) (kept : IsQueue old) (unclosed : is_closed old.log ≡ f
         within = kept.within;
         tally = subst (λ es. IsTally es old.tally) (sym entries) kept.tally;
         sizes = λ t call there. kept.sizes t call (sym (calls_same t) ∙ there);
+        named = λ t call there. kept.named t call (sym (calls_same t) ∙ there);
         calls = omega arith;
         text = kept.text;
         names = kept.names;
@@ -171,6 +173,7 @@ module _ (old : Inside) (kept : IsQueue old) where
         within = kept.within;
         tally = subst (λ js. IsTally (reloads js) tally) (sym is) now;
         sizes = subst (λ js. (t : ℕ) (call : Call) → call_of js t ≡ Some call → HasFileSizes call) (sym is) kept.sizes;
+        named = subst (λ js. (t : ℕ) (call : Call) → call_of js t ≡ Some call → has_file_names call ≡ true) (sym is) kept.named;
         calls = subst (λ js. accepted js ≤ old.limits.calls) (sym is) kept.calls;
         text = subst (λ (u : Usage). u.text ≤ old.limits.text) (sym usage) kept.text;
         names = subst (λ (u : Usage). u.names ≤ old.limits.names) (sym usage) kept.names;

@@ -1,6 +1,6 @@
 -- What a queue keeps beside its journal.
 use Rattle.std.specs.Prelude.{◌≡◌, ℕ, ◌<◌, ◌≤◌, true, IsTrue, Some}
-use Rattle.ask_history.specs.Engine.{HasFileSizes}
+use Rattle.ask_history.specs.Engine.{HasFileSizes, has_file_names}
 use Rattle.ask_history.specs.Journal.{accepted, call_of, is_closed, is_settled}
 use Rattle.ask_history.specs.Legal.{is_legal}
 use Rattle.ask_history.specs.declared.calls.Call.{Call}
@@ -17,6 +17,7 @@ pub record IsQueue (queue : Inside) : Type 0 where
   pub within : IsWithin queue.limits
   pub tally : IsTally (reloads queue.log) queue.tally
   pub sizes : (t : ℕ) (call : Call) → call_of queue.log t ≡ Some call → HasFileSizes call
+  pub named : (t : ℕ) (call : Call) → call_of queue.log t ≡ Some call → has_file_names call ≡ true
   pub calls : accepted queue.log ≤ queue.limits.calls
   pub text : queue.tally.usage.text ≤ queue.limits.text
   pub names : queue.tally.usage.names ≤ queue.limits.names

@@ -1,7 +1,7 @@
 ghost use Rattle.std.specs.Prelude.{◌≡◌, ℕ, ◌<◌, ◌≤◌, ◌+◌, ◌++◌, ◌∷◌, ◌^◌, [], length, Some, None, Ok, Err, IsTrue, IfOk, IfErr, OnOk, OnErr, true, false};
 ghost use Rattle.ask_history.specs.Sources.{mutated};
 ghost use Rattle.ask_history.specs.Journal.{accepted, after, call_of, is_closed, is_cancelled, is_settled, is_open, reply, taking_effect};
-ghost use Rattle.ask_history.specs.Engine.{HasFileSizes};
+ghost use Rattle.ask_history.specs.Engine.{HasFileSizes, has_file_names};
 ghost use Rattle.ask_history.specs.Legal.{is_legal, is_next, may_follow};
 ghost use Rattle.ask_history.specs.declared.events.Event.TheVariants.{Accept, Cancel, Close, Settle, Checked};
 ghost use Rattle.work_queue.specs.declared.limits.PostRefused.{PostRefused as Refused};
@@ -58,7 +58,8 @@ impl Queue {
 
     /// Accepts a call under the next ticket, and makes room for its cancel and its settling. A refused call comes back.
     pub fn post(&mut self, client: u64, tag: u64, call: Call) -> Result<u64, (PostRefused, Call)>
-        requires { length (reloaded_by call) < 2 ^ 32 }
+        requires few { length (reloaded_by call) < 2 ^ 32 }
+        requires names { has_file_names call ≡ true }
 
         // It is refused where the limits say so, and else only out of memory.
         ensures refused { (why : Refused) → refusal self.old.limits self.old.journal call ≡ Some why → result ≡ Err (why, call) }
@@ -109,6 +110,7 @@ impl Queue {
         usage: Usage,
     ) -> Result<u64, (PostRefused, Call)>
         requires free { refusal self.old.limits self.old.journal call ≡ None }
+        requires names { has_file_names call ≡ true }
         requires usage { usage ≡ usage_of (reloads self.old.journal ++ reloaded_by call) }
         ensures ticket { IfOk result (λ ticket. ticket ≡ accepted self.old.journal) }
         ensures ok { IfOk result (λ ticket. self.new ≡ with_events self.old (Accept ticket client tag call ∷ [])) }
@@ -140,12 +142,13 @@ impl Queue {
         self.log.accepted() as u64
     }
 
-    /// The call of an accepted ticket. Its texts are no longer than a file may be, and it loads no more files than there
-    /// may be.
+    /// The call of an accepted ticket. Its texts are no longer than a file may be, its files have names that files may
+    /// have, and it loads no more files than there may be.
     pub fn call(&self, ticket: u64) -> &Call
         requires { ticket < accepted self.now.journal }
         ensures call { call_of self.now.journal ticket ≡ Some result.now }
         ensures sizes { HasFileSizes result.now }
+        ensures names { has_file_names result.now ≡ true }
         ensures few { length (mutated (after self.now.journal) result.now) ≤ 1024 }
     {
         self.log.call(ticket as usize)
@@ -162,6 +165,13 @@ impl Queue {
         let ticket = self.given;
         self.given += 1;
         Some(ticket)
+    }
+
+    /// Whether the session was shut down.
+    pub fn is_closed(&self) -> bool
+        ensures { result ≡ is_closed self.now.journal }
+    {
+        self.log.close_index().is_some()
     }
 
     /// Whether a cancel of the ticket stands.

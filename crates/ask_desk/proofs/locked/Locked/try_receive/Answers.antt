@@ -69,6 +69,9 @@ returns-in-None g c =
         record {
           writes = subst (λ (v : View). Writes v new.seen [] new) is wrote;
           unsettled = ap (λ es. is_settled (journal_of es) t) seen ∙ unsettled;
+          mine = ap (λ es. taker_of es t) seen
+              ∙ taker_led old scribe led t c.pass.inside.number c.take_lead.ensures (taker ∙ c.pass.invariant.named)
+              ∙ sym (wrote.moves.number ∙ c.pass.invariant.named);
         },
         refl,
       );

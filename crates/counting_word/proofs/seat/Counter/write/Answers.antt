@@ -12,15 +12,13 @@ pub fetch_add-requires : goal.fetch_add-requires
 fetch_add-requires g c =
     let is = c.seat.view_is in
     let entry : Entry = g.W.Writing.entry in
-    let event : entry.event ≡ c.args.event.now = ap (λ (e : Entry). e.event) c.requires.entry in
-    let author : entry.author ≡ unwrap_or c.args.seat.now.name.number 0 = ap (λ (e : Entry). e.author) c.requires.entry in
     let n = number_of c.args.seat.now.name.number c.requires.named in
-    let legal = legal_more c.args.seat.now.seen entry c.args.event.now event c.requires.legal in (
+    let legal = legal_more c.args.seat.now.seen entry c.args.event.now c.requires.event c.requires.legal in (
       c.seat.invariant.0 ∙ sym c.args.self.now.named,
       omega (arith, c.args.self.now.one_word),
       appends _ _ _ entry
           (ap (λ (v : View). v.leads) is ∙ c.requires.leads)
-          (ap (λ (v : View). v.name.number) is ∙ n.1 ∙ ap Some (sym (author ∙ ap (λ o. unwrap_or o 0) n.1)))
+          (ap (λ (v : View). v.name.number) is ∙ n.1 ∙ ap Some (sym (c.requires.author ∙ ap (λ o. unwrap_or o 0) n.1)))
           (subst (λ (v : View). length v.seen + 1 < 2 ^ 64) (sym is) c.requires.room)
           (subst (λ (v : View). IsTrue (is_legal (journal_of (v.seen ++ entry ∷ [])))) (sym is) legal),
     )
