@@ -1,5 +1,5 @@
 -- What the calls of a board tell, and what they put into the history.
-use Rattle.std.specs.Prelude.{◌≡◌, ◌⊎◌, ⊤, ℕ, ◌<◌, ◌^◌, Bool, true, false, IsTrue, if◌then◌else◌, List, [], ◌∷◌, ◌++◌, length, Option, Some, None}
+use Rattle.std.specs.Prelude.{◌≡◌, ◌⊎◌, ℕ, ◌<◌, ◌^◌, Bool, true, false, IsTrue, if◌then◌else◌, List, [], ◌∷◌, ◌++◌, length, Option, Some, None}
 use Rattle.pc_terms.specs.declared.problems.Problem.{Problem}
 use Rattle.ask_history.specs.Sources.{Bytes, mutated}
 use Rattle.ask_history.specs.Engine.{HasFileSizes, has_file_names}
@@ -59,7 +59,7 @@ pub record CanFeed (journal : List Event) (ticket : ℕ) (call : Call) : Type 0 
 abbrev pub Finds : List Event → ℕ → Posted → Type 0
 Finds journal ticket (posted.Call call) = CanFeed journal ticket call
 Finds journal ticket posted.NoMemory = Waits journal ticket
-Finds journal ticket posted.Settled = ⊤
+Finds journal ticket posted.Settled = is_settled journal ticket ≡ true
 
 -- ---- settlings
 

@@ -41,11 +41,16 @@ module _ (answer_of : Sources → Call → Answer) (problems_of : Sources → By
   AreRight before (entry ∷ entries) =
       (entry.mine ≡ true → IsRight (journal_of before) entry.event entry.answer entry.problems) × AreRight (before ++ entry ∷ []) entries
 
-  -- The history went on by these entries, of which each of the driver's is right. The findings of its checks were told, and
-  -- `found` grew by their problems.
-  pub record Made (Told : List Finding → Type 0) (old new : List Entry) (found found' : List (List Problem)) : Type 0 where
+  -- The history went on by these entries, of which each of the driver's is right. These are the findings of its checks.
+  pub record Adds (old new : List Entry) (findings : List Finding) : Type 0 where
     pub entries : List Entry
     pub behind : new ≡ old ++ entries
     pub right : AreRight old entries
-    pub told : Told (my_findings entries)
-    pub grew : found' ≡ found ++ map (λ (finding : Finding). finding.1) (my_findings entries)
+    pub checks : my_findings entries ≡ findings
+
+  -- The driver went on with the history. The findings of its checks were told, and `found` grew by their problems.
+  pub record Made (Told : List Finding → Type 0) (old new : List Entry) (found found' : List (List Problem)) : Type 0 where
+    pub findings : List Finding
+    pub adds : Adds old new findings
+    pub told : Told findings
+    pub grew : found' ≡ found ++ map (λ (finding : Finding). finding.1) findings
