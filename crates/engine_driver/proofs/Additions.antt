@@ -80,6 +80,16 @@ module _ (answer_of : Sources → Call → Answer) (problems_of : Sources → By
         → found' ≡ found ++ problems ∷ [] → Adds answer_of problems_of old now ((file, problems) ∷ []) → Made answer_of problems_of Told old now found found'
     made_one old now found found' file problems told grew adds = record { findings = (file, problems) ∷ []; adds = adds; told = told; grew = grew }
 
+    -- others first, and then what the driver makes
+    pub made_behind : (old before now : List Entry) (found found' : List (List Problem)) → IsLater old before → Made answer_of problems_of Told before now found found'
+        → Made answer_of problems_of Told old now found found'
+    made_behind old before now found found' later made = record {
+      findings = made.findings;
+      adds = adds_behind old before now made.findings later made.adds;
+      told = made.told;
+      grew = made.grew;
+    }
+
   pub made_further : (T U V : List Finding → Type 0) → ((front back : List Finding) → T front → U back → V (front ++ back))
       → (a b c : List Entry) (found found' found'' : List (List Problem)) → Made answer_of problems_of T a b found found' → Made answer_of problems_of U b c found' found'' → Made answer_of problems_of V a c found found''
   made_further T U V joined a b c found found' found'' one two = record {
@@ -139,3 +149,12 @@ module _ {Kind : Type 0} {At : Kind → Type 0} (told : DynBox Kind Global At �
   told_further front back old now new one two =
       each_joined (IsToldMost told faults front) (IsToldMost told faults back) (IsToldMost told faults (front ++ back))
       (λ a b c r s. ((s.0.0 ∙ r.0.0, s.0.1 ∙ r.0.1), most_further front back _ _ _ r.1 s.1)) old now new one two
+
+  -- one stretch of the driver's work, and then another
+  pub made_told : (answer_of : Sources → Call → Answer) (problems_of : Sources → Bytes → List Problem) (a b c : List Entry) (found found' found'' : List (List Problem)) (old now new : List (Option (DynBox Kind Global At)))
+      → Made answer_of problems_of (λ findings. OfEach (IsToldMost told faults findings) old now) a b found found'
+      → Made answer_of problems_of (λ findings. OfEach (IsToldMost told faults findings) now new) b c found' found''
+      → Made answer_of problems_of (λ findings. OfEach (IsToldMost told faults findings) old new) a c found found''
+  made_told answer_of problems_of a b c found found' found'' old now new one two =
+      made_further answer_of problems_of (λ findings. OfEach (IsToldMost told faults findings) old now) (λ findings. OfEach (IsToldMost told faults findings) now new)
+      (λ findings. OfEach (IsToldMost told faults findings) old new) (λ front back one two. told_further front back old now new one two) a b c found found' found'' one two

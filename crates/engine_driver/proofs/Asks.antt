@@ -4,7 +4,7 @@ use Rattle.std.specs.List.{list_any, AllByRecursion}
 use Rattle.std.proofs.lemmas.Bool.{and_from, eqb-true}
 use Rattle.std.proofs.lemmas.Bool.Decides.{nat_tests}
 use Rattle.ask_history.specs.Sources.{is_mutation}
-use Rattle.ask_history.specs.Engine.{EngineState, is_open_in}
+use Rattle.ask_history.specs.Engine.{EngineState, is_open_in, is_staged, IsOnTop}
 use Rattle.ask_history.specs.Journal.{accepted, call_of, is_open, is_settled}
 use Rattle.ask_history.specs.Legal.{is_next}
 use Rattle.ask_history.specs.declared.calls.Call.{Call}
@@ -13,9 +13,6 @@ use Rattle.engine_driver.specs.Board.{first_cancelled}
 use Rattle.engine_driver.specs.Serving.{IsAsked, Serves}
 use Rattle.ask_history.specs.Journal.{is_cancelled}
 use Rattle.journal_laws.proofs.Settling.{next_below}
-
-Asks : Type 0
-Asks = List (ℕ × Call)
 
 abbrev pub tickets_of : List (ℕ × Call) → List ℕ
 tickets_of asks = map (λ (ask : ℕ × Call). ask.0) asks
@@ -87,6 +84,43 @@ may_settle journal state next opened ticket serves there =
       unanswered = and_from (is_some (call_of journal ticket)) (not (is_settled journal ticket)) (ap is_some ask.holds.called) (ap not ask.holds.unsettled);
       next = next_below journal ticket next (omega arith) serves.first;
     }
+
+pub settled_open : (journal : List Event) (state : EngineState) (next : ℕ) (opened : List ℕ) (ticket : ℕ) → Serves journal state next opened
+    → list_any (λ open_. open_ == ticket) opened ≡ true → (is_staged state.staged ticket || is_open_in state.asks ticket) ≡ true
+settled_open journal state next opened ticket serves there =
+    ap (λ b. is_staged state.staged ticket || b) (sym (open_in state.asks ticket) ∙ sym (ap (list_any (λ open_. open_ == ticket)) serves.opens) ∙ there)
+    ∙ or_true (is_staged state.staged ticket)
+  where
+    or_true : (b : Bool) → (b || true) ≡ true
+    or_true true = refl
+    or_true false = refl
+
+-- ---- the ask on top
+
+top_of : (P : ℕ × Call → Type 0) (below : List (ℕ × Call)) (ask : ℕ × Call) → AllByRecursion P (below ++ ask ∷ []) → P ask
+top_of P [] ask all = all.0
+top_of P (first ∷ below) ask all = top_of P below ask all.1
+
+pub top_asked : (journal : List Event) (state : EngineState) (next : ℕ) (opened : List ℕ) (ask : ℕ × Call) → Serves journal state next opened → IsOnTop state.asks ask
+    → IsAsked journal next ask
+top_asked journal state next opened ask serves top =
+    top_of (IsAsked journal next) top.0 ask (subst (AllByRecursion (IsAsked journal next)) top.1 serves.asked)
+
+pub top_opened : (journal : List Event) (state : EngineState) (next : ℕ) (opened : List ℕ) (ask : ℕ × Call) → Serves journal state next opened → IsOnTop state.asks ask
+    → list_any (λ open_. open_ == ask.0) opened ≡ true
+top_opened journal state next opened ask serves top =
+    ap (list_any (λ open_. open_ == ask.0)) serves.opens ∙ ap (λ asks. list_any (λ open_. open_ == ask.0) (tickets_of asks)) top.1 ∙ last top.0
+  where
+    own : (t : ℕ) → (t == t) ≡ true
+    own t = grind (arith, nat_tests)
+
+    or_true : (b : Bool) → (b || true) ≡ true
+    or_true true = refl
+    or_true false = refl
+
+    last : (below : List (ℕ × Call)) → list_any (λ open_. open_ == ask.0) (tickets_of (below ++ ask ∷ [])) ≡ true
+    last [] = ap (λ b. b || false) (own ask.0)
+    last (first ∷ below) = ap (λ b. (first.0 == ask.0) || b) (last below) ∙ or_true (first.0 == ask.0)
 
 -- the first cancelled one is open, and cancelled
 pub record IsDropped (journal : List Event) (opened : List ℕ) (ticket : ℕ) : Type 0 where

@@ -136,6 +136,14 @@ has_checked state file =
     has_append (state.checked ++ file ∷ []) state.skipped file
     ∙ ap (λ b. b || has_file state.skipped file) (has_append state.checked (file ∷ []) file ∙ ap (λ b. has_file state.checked file || (b || false)) ((bytes_eq-Decides file file).1 refl) ∙ or_true (has_file state.checked file))
 
+-- the engine checked a file, and the driver noted it, or not
+pub checked_noted : (journal journal' : List Event) (state state' : EngineState) (n : ℕ) (opened : List ℕ) (file : Bytes)
+    → ((s : EngineState) (k : ℕ) (o : List ℕ) → Drives journal s k o → has_file (s.checked ++ s.skipped) file ≡ true → Drives journal' s k o)
+    → state' ≡ record state { checked = state.checked ++ file ∷ [] } → Drives journal state n opened → Drives journal' state' n opened
+checked_noted journal journal' state state' n opened file noted is drives =
+    subst (λ (s : EngineState). Drives journal' s n opened) (sym is)
+    (noted (record state { checked = state.checked ++ file ∷ [] }) n opened (drives_checked journal state n opened file drives) (has_checked state file))
+
 -- ---- the event of a check
 
 module _ (journal : List Event) (file : Bytes) (may : IsTrue (may_follow journal (Checked file))) where

@@ -5,7 +5,7 @@ use Rattle.std.proofs.lemmas.List.{map-append}
 use Rattle.std.proofs.lemmas.Bool.{and_from, eqb-true}
 use Rattle.std.proofs.lemmas.Bool.Decides.{nat_tests}
 use Rattle.ask_history.specs.Sources.{is_mutation}
-use Rattle.ask_history.specs.Engine.{EngineState}
+use Rattle.ask_history.specs.Engine.{EngineState, stopped_state}
 use Rattle.ask_history.specs.Journal.{accepted, call_of, is_closed, is_open, is_settled}
 use Rattle.ask_history.specs.Legal.{is_legal, is_next}
 use Rattle.ask_history.specs.declared.calls.Call.{Call}
@@ -14,7 +14,7 @@ use Rattle.ask_history.proofs.Accepted.{accepted_below}
 use Rattle.ask_history.proofs.Orders.{is_next-from, is_open-from}
 use Rattle.journal_laws.proofs.Settling.{next_ask, next_settled}
 use Rattle.engine_driver.specs.Board.{Waits, CanFeed}
-use Rattle.engine_driver.specs.Serving.{IsAsked, Serves, Drives, CanDrive, IsStaging}
+use Rattle.engine_driver.specs.Serving.{IsAsked, Serves, Drives, CanDrive, IsServed, IsStaging}
 use Rattle.engine_driver.proofs.Later.{all_so}
 use Rattle.engine_driver.proofs.Asks.{all_more, tickets_of, MaySettle}
 
@@ -102,3 +102,15 @@ drives_start journal state can = record {
     files = can.files;
   };
 }
+
+-- a driver that fed nothing
+pub drives_new : (journal : List Event) (state : EngineState) (n : ℕ) (opened : List ℕ) → CanDrive journal state → n ≡ 0 → opened ≡ [] → Drives journal state n opened
+drives_new journal state n opened can count none =
+    subst (λ (k : ℕ). Drives journal state k opened) (sym count) (subst (Drives journal state 0) (sym none) (drives_start journal state can))
+
+-- ---- the end
+
+pub served_stopped : (journal : List Event) (state state' : EngineState) (n : ℕ) (opened : List ℕ) → Drives journal state n opened → is_closed journal ≡ true → state' ≡ stopped_state state
+    → IsServed journal state'
+served_stopped journal state state' n opened drives shut is =
+    subst (IsServed journal) (sym is) (record { legal = drives.legal; shut = shut; sources = drives.sources; asks = refl; staged = drives.staged })

@@ -1,10 +1,11 @@
 -- What stays where others went on with the history.
-use Rattle.std.proofs.Common.{◌≡◌, ℕ, ◌<◌, ◌≤◌, Bool, true, false, true≢false, IsTrue, List, [], ◌∷◌, ◌++◌, map, Option, Some, None, refl, sym, ap, ◌∙◌, subst, arith}
+use Rattle.std.proofs.Common.{◌≡◌, ℕ, ◌<◌, ◌≤◌, Bool, true, false, true≢false, cond, IsTrue, List, [], ◌∷◌, ◌++◌, map, Option, Some, None, refl, sym, ap, ◌∙◌, subst, arith}
 use Rattle.std.specs.List.{list_any, AllByRecursion}
 use Rattle.std.proofs.lemmas.List.{map-append}
+use Rattle.std.proofs.lemmas.List.Sums.{sum_by-append}
 use Rattle.ask_history.specs.Sources.{Bytes, is_mutation}
 use Rattle.ask_history.specs.Engine.{EngineState}
-use Rattle.ask_history.specs.Journal.{accepted, after, call_of, checked, is_closed, is_settled}
+use Rattle.ask_history.specs.Journal.{accepted, is_accept, after, call_of, checked, is_closed, is_settled}
 use Rattle.ask_history.specs.Legal.{is_legal}
 use Rattle.ask_history.specs.declared.calls.Call.{Call}
 use Rattle.ask_history.specs.declared.events.Event.{Event}
@@ -35,6 +36,15 @@ module _ (old now : List Entry) (later : IsLater old now) where
   later_stays open_ =
       subst (Stays (journal_of old)) (sym later_journal)
       (others_stay (journal_of old) (journal_of later.others) (subst (λ js. IsTrue (is_legal js)) later_journal later.legal) later.kinds (sym (ap is_closed later_journal) ∙ open_))
+
+accepted-append : (front back : List Event) → accepted front ≤ accepted (front ++ back)
+accepted-append front back = omega (arith, sum_by-append (λ (e : Event). cond (is_accept e) 1 0) front back)
+
+pub accepted_further : (old now : List Entry) → IsLater old now → (t : ℕ) → t < accepted (journal_of old) → t < accepted (journal_of now)
+accepted_further old now later t h =
+    let more = accepted-append (journal_of old) (journal_of later.others) in
+    let same : accepted (journal_of now) ≡ accepted (journal_of old ++ journal_of later.others) = ap accepted (later_journal old now later) in
+    omega arith
 
 pub asked_stays : (before now : List Event) (next : ℕ) (ask : ℕ × Call) → Stays before now → IsAsked before next ask → IsAsked now next ask
 asked_stays before now next ask stays asked = record {

@@ -62,3 +62,13 @@ module _ (answer_of : Sources → Call → Answer) (old : List Entry) (t : ℕ) 
       ∙ ap (λ a. unwrap_or forced a) same
       ∙ ap (λ fs. unwrap_or forced (found answer_of fs (Some call))) (sym files)
       ∙ ap (λ o. unwrap_or forced (found answer_of (after (journal_of before)) o)) (sym there)
+
+  -- a mutation is answered Done
+  pub found_done : (call : Call) → call_of (journal_of old) t ≡ Some call → is_mutation call ≡ true → IsFound answer_of old t (Some answer.Done)
+  found_done call is mutates =
+      found_value call answer.Done is
+      (ap (λ b. if b then answer.Done else answer.Done) mutates ∙ sym (ap (λ b. if b then answer.Done else answer_of (after (journal_of old)) call) mutates))
+
+  -- an ask is answered over the sources
+  pub found_answer : (call : Call) (value : Answer) → call_of (journal_of old) t ≡ Some call → value ≡ answer_of (after (journal_of old)) call → IsFound answer_of old t (Some value)
+  found_answer call value is same = found_value call value is (ap (λ a. if is_mutation call then answer.Done else a) same)

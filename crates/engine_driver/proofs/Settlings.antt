@@ -208,6 +208,15 @@ drives_ask old new state n t opened found effect drives unshut there settles =
               (serves_ask (journal_of before) t (mark_of found) legal state n opened none (now.serves e));
         }
 
+-- as the engine and the driver keep it
+pub drives_asked : (old new : List Entry) (state state' : EngineState) (n n' t : ℕ) (opened opened' : List ℕ) (found : Option Answer) (effect : Effect)
+    → Drives (journal_of old) state n opened → is_closed (journal_of old) ≡ false → list_any (λ o. o == t) opened ≡ true → Settles old new t found effect
+    → state' ≡ settled_state state t Dropped → n' ≡ n → opened' ≡ filter (λ o. not (o == t)) opened → Drives (journal_of new) state' n' opened'
+drives_asked old new state state' n n' t opened opened' found effect drives unshut there settles is count rows =
+    subst (λ (s : EngineState). Drives (journal_of new) s n' opened') (sym is)
+    (subst (λ (k : ℕ). Drives (journal_of new) (settled_state state t Dropped) k opened') (sym count)
+    (subst (Drives (journal_of new) (settled_state state t Dropped) n) (sym rows) (drives_ask old new state n t opened found effect drives unshut there settles)))
+
 -- ---- the next ticket
 
 -- without memory nothing takes effect

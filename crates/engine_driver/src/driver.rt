@@ -1,5 +1,5 @@
 //! The driver, and the rounds that it makes.
-ghost use Rattle.std.specs.Prelude.{◌≡◌, ◌<◌, ◌+◌, ◌^◌, ◌==◌, [], ℕ, List, true, false, IsTrue};
+ghost use Rattle.std.specs.Prelude.{◌≡◌, ◌<◌, ◌+◌, ◌^◌, ◌==◌, [], ℕ, List, true, false, not, filter, IsTrue};
 ghost use Rattle.std.specs.List.{list_any};
 ghost use Rattle.ask_history.specs.Engine.{EngineState};
 ghost use Rattle.ask_history.specs.Journal.{accepted, is_closed, is_open};
@@ -41,6 +41,14 @@ impl Driver {
         }
     }
 
+    // Forgets an open ask.
+    fn take_off(&mut self, ticket: u64)
+        ensures next { self.new.next ≡ self.old.next }
+        ensures opened { self.new.opened.items ≡ filter (λ other. not (other == ticket)) self.old.opened.items }
+    {
+        self.opened.retain(|other| *other != ticket);
+    }
+
     // Settles an open ask with what was found for it, and takes it off the engine.
     fn settle_ask<B: Board, E: Engine>(
         &mut self,
@@ -51,14 +59,14 @@ impl Driver {
     )
         requires drives { Drives (journal_of (B.history board.old)) (E.state engine.old) self.old.next self.old.opened.items }
         requires unshut { is_closed (journal_of (B.history board.old)) ≡ false }
-        requires opened { list_any (λ open. open == ticket) self.old.opened.items ≡ true }
+        requires opened { list_any (λ other. other == ticket) self.old.opened.items ≡ true }
         requires right { IsFound E.answer_of (B.history board.old) ticket found }
         ensures drives { Drives (journal_of (B.history board.new)) (E.state engine.new) self.new.next self.new.opened.items }
         ensures adds { Adds E.answer_of E.problems_of (B.history board.old) (B.history board.new) [] }
     {
         board.settle(ticket, found);
         engine.settled(ticket, Effect::Dropped);
-        self.opened.retain(|open| *open != ticket);
+        self.take_off(ticket);
     }
 
     // Settles the call of the next ticket, which could not be fed.
