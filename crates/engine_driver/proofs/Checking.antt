@@ -1,5 +1,5 @@
 -- Checks in the background.
-use Rattle.std.proofs.Common.{◌≡◌, ℕ, ◌+◌, ◌<◌, ◌≤◌, Bool, true, false, true≢false, not, ◌&&◌, ◌||◌, cond, if◌then◌else◌, IsTrue, List, [], ◌∷◌, ◌++◌, map, filter, Option, Some, None, refl, sym, ap, ◌∙◌, subst, arith, append-nil}
+use Rattle.std.proofs.Common.{◌≡◌, ℕ, ◌+◌, Bool, true, false, true≢false, not, ◌&&◌, ◌||◌, if◌then◌else◌, IsTrue, List, [], ◌∷◌, ◌++◌, map, filter, Some, refl, sym, ap, ◌∙◌, subst, arith, append-nil}
 use Rattle.std.specs.List.{list_any, AllByRecursion}
 use Rattle.std.specs.Str.{bytes_eq}
 use Rattle.std.proofs.Math.Bool.{or-false}
@@ -7,8 +7,8 @@ use Rattle.std.proofs.lemmas.Bool.{and_from}
 use Rattle.std.proofs.lemmas.List.Folds.{list_any-append}
 use Rattle.std.proofs.lemmas.Slice.Eq.{bytes_eq-Decides}
 use Rattle.pc_terms.specs.declared.problems.Problem.{Problem}
-use Rattle.ask_history.specs.Sources.{Bytes, Sources, is_loaded, unchecked}
-use Rattle.ask_history.specs.Engine.{EngineState, files_due, IsCheckOf}
+use Rattle.ask_history.specs.Sources.{Bytes, Sources, is_loaded}
+use Rattle.ask_history.specs.Engine.{EngineState, IsCheckOf}
 use Rattle.ask_history.specs.Journal.{accepted, after, call_of, checked, is_closed, is_settled, settles}
 use Rattle.ask_history.specs.Legal.{is_legal, may_follow}
 use Rattle.ask_history.specs.declared.answers.Answer.{Answer}
@@ -20,12 +20,12 @@ use Rattle.ask_history.proofs.Walks.{along-push}
 use Rattle.ask_history.specs.Journal.{sources_step}
 use Rattle.journal_laws.proofs.Settling.{next_kept}
 use Rattle.journal_laws.proofs.Tickets.{may_last}
-use Rattle.journal_laws.proofs.Others.{files_checked}
+use Rattle.journal_laws.proofs.Others.{files_checked, closed-further}
 use Rattle.engine_driver.specs.declared.board.CheckNoted.{CheckNoted}
 use Rattle.engine_driver.specs.declared.board.CheckNoted.TheVariants.{Noted, ShutDown, NoMemory}
-use Rattle.engine_driver.specs.History.{Entry, journal_of, IsLater}
+use Rattle.engine_driver.specs.History.{Entry, journal_of}
 use Rattle.engine_driver.specs.Board.{checking, noting, Checks}
-use Rattle.engine_driver.specs.Serving.{has_file, AreChecked, IsAsked, Serves, Drives}
+use Rattle.engine_driver.specs.Serving.{has_file, IsAsked, Serves, Drives}
 use Rattle.engine_driver.specs.Runs.{Adds}
 use Rattle.engine_driver.proofs.Later.{journal_of-append, all_so, drives_later, later_sources}
 use Rattle.engine_driver.proofs.Additions.{adds_later, adds_one, adds_behind}
@@ -176,9 +176,9 @@ module _ (journal : List Event) (file : Bytes) (may : IsTrue (may_follow journal
           let same : name ≡ file = (bytes_eq-Decides name file).0 own in
           subst (λ f. has_file (state.checked ++ state.skipped) f ≡ true) (sym same) has
 
-pub drives_noted : (old new : List Entry) (state : EngineState) (n : ℕ) (opened : List ℕ) (file : Bytes) (problems : List Problem) (noted : CheckNoted)
-    → Checks old new file problems noted → has_file (state.checked ++ state.skipped) file ≡ true → Drives (journal_of old) state n opened → Drives (journal_of new) state n opened
-drives_noted old new state n opened file problems noted checks has drives = by noted checks.written
+pub drives_noted : (old new : List Entry) (state : EngineState) (n : ℕ) (opened : List ℕ) (file : Bytes) (problems : List Problem) (what : CheckNoted)
+    → Checks old new file problems what → has_file (state.checked ++ state.skipped) file ≡ true → Drives (journal_of old) state n opened → Drives (journal_of new) state n opened
+drives_noted old new state n opened file problems what checks has drives = by what checks.written
   where
     before : List Entry
     before = checks.before
@@ -186,7 +186,7 @@ drives_noted old new state n opened file problems noted checks has drives = by n
     now : Drives (journal_of before) state n opened
     now = drives_later old before state n opened checks.later drives
 
-    by : (noted : CheckNoted) → new ≡ before ++ noting file problems noted → Drives (journal_of new) state n opened
+    by : (result : CheckNoted) → new ≡ before ++ noting file problems result → Drives (journal_of new) state n opened
     by Noted e =
         let same : journal_of new ≡ journal_of before ++ Checked file ∷ [] = ap journal_of e ∙ journal_of-append before (checking file problems ∷ []) in
         let legal = subst (λ js. IsTrue (is_legal js)) same checks.legal in
@@ -200,7 +200,7 @@ drives_noted old new state n opened file problems noted checks has drives = by n
         }
       where
         open_before : (js : List Event) → is_closed (js ++ Checked file ∷ []) ≡ false → is_closed js ≡ false
-        open_before js k = Rattle.journal_laws.proofs.Others.closed-further js (Checked file ∷ []) k
+        open_before js k = closed-further js (Checked file ∷ []) k
     by ShutDown e = subst (λ es. Drives (journal_of es) state n opened) (sym (e ∙ append-nil before)) now
     by NoMemory e = subst (λ es. Drives (journal_of es) state n opened) (sym (e ∙ append-nil before)) now
 
@@ -217,8 +217,8 @@ module _ (answer_of : Sources → Call → Answer) (problems_of : Sources → By
       (adds_behind answer_of problems_of old before (before ++ entry ∷ []) ((file, problems) ∷ []) checks.later
       (adds_one answer_of problems_of before entry (λ mine. ap Some same)))
 
-  pub adds_unnoted : (old new : List Entry) (file : Bytes) (problems : List Problem) (noted : CheckNoted) → noting file problems noted ≡ [] → Checks old new file problems noted
+  pub adds_unnoted : (old new : List Entry) (file : Bytes) (problems : List Problem) (what : CheckNoted) → noting file problems what ≡ [] → Checks old new file problems what
       → Adds answer_of problems_of old new []
-  adds_unnoted old new file problems noted none checks =
+  adds_unnoted old new file problems what none checks =
       subst (λ es. Adds answer_of problems_of old es []) (sym (checks.written ∙ ap (λ es. checks.before ++ es) none ∙ append-nil checks.before))
       (adds_later answer_of problems_of old checks.before checks.later)

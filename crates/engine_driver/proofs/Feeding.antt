@@ -1,20 +1,18 @@
 -- What feeding a call leaves, and where a driver begins.
-use Rattle.std.proofs.Common.{◌≡◌, ℕ, zero, ◌+◌, ◌<◌, ◌≤◌, Bool, true, false, true≢false, not, ◌&&◌, ◌||◌, is_some, nat_lt, IsTrue, List, [], ◌∷◌, ◌++◌, map, Option, Some, None, refl, sym, ap, ◌∙◌, subst, arith}
-use Rattle.std.specs.List.{list_any, AllByRecursion}
+use Rattle.std.proofs.Common.{◌≡◌, ℕ, ◌+◌, ◌<◌, ◌≤◌, true, false, is_some, IsTrue, List, [], ◌∷◌, ◌++◌, Some, None, refl, sym, ap, ◌∙◌, subst, arith}
+use Rattle.std.specs.List.{AllByRecursion}
 use Rattle.std.proofs.lemmas.List.{map-append}
-use Rattle.std.proofs.lemmas.Bool.{and_from, eqb-true}
-use Rattle.std.proofs.lemmas.Bool.Decides.{nat_tests}
 use Rattle.ask_history.specs.Sources.{is_mutation}
 use Rattle.ask_history.specs.Engine.{EngineState, stopped_state}
-use Rattle.ask_history.specs.Journal.{accepted, call_of, is_closed, is_open, is_settled}
-use Rattle.ask_history.specs.Legal.{is_legal, is_next}
+use Rattle.ask_history.specs.Journal.{accepted, call_of, is_closed, is_settled}
+use Rattle.ask_history.specs.Legal.{is_legal}
 use Rattle.ask_history.specs.declared.calls.Call.{Call}
 use Rattle.ask_history.specs.declared.events.Event.{Event}
 use Rattle.ask_history.proofs.Accepted.{accepted_below}
 use Rattle.ask_history.proofs.Orders.{is_next-from, is_open-from}
 use Rattle.journal_laws.proofs.Settling.{next_ask, next_settled}
 use Rattle.engine_driver.specs.Board.{Waits, CanFeed}
-use Rattle.engine_driver.specs.Serving.{IsAsked, Serves, Drives, CanDrive, IsServed, IsStaging}
+use Rattle.engine_driver.specs.Serving.{IsAsked, Drives, CanDrive, IsServed, IsStaging}
 use Rattle.engine_driver.proofs.Later.{all_so}
 use Rattle.engine_driver.proofs.Asks.{all_more, tickets_of, MaySettle}
 

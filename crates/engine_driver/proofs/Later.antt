@@ -1,18 +1,17 @@
 -- What stays where others went on with the history.
-use Rattle.std.proofs.Common.{◌≡◌, ℕ, ◌<◌, ◌≤◌, Bool, true, false, true≢false, cond, IsTrue, List, [], ◌∷◌, ◌++◌, map, Option, Some, None, refl, sym, ap, ◌∙◌, subst, arith}
-use Rattle.std.specs.List.{list_any, AllByRecursion}
+use Rattle.std.proofs.Common.{◌≡◌, ℕ, ◌<◌, ◌≤◌, true, false, cond, IsTrue, List, [], ◌∷◌, ◌++◌, sym, ap, ◌∙◌, subst, arith}
+use Rattle.std.specs.List.{AllByRecursion}
 use Rattle.std.proofs.lemmas.List.{map-append}
 use Rattle.std.proofs.lemmas.List.Sums.{sum_by-append}
-use Rattle.ask_history.specs.Sources.{Bytes, is_mutation}
 use Rattle.ask_history.specs.Engine.{EngineState}
-use Rattle.ask_history.specs.Journal.{accepted, is_accept, after, call_of, checked, is_closed, is_settled}
+use Rattle.ask_history.specs.Journal.{accepted, is_accept, after, is_closed}
 use Rattle.ask_history.specs.Legal.{is_legal}
 use Rattle.ask_history.specs.declared.calls.Call.{Call}
 use Rattle.ask_history.specs.declared.events.Event.{Event}
 use Rattle.journal_laws.specs.Stays.{Stays}
 use Rattle.journal_laws.proofs.Others.{others_leave_sources, others_stay, closed-further}
 use Rattle.engine_driver.specs.History.{Entry, journal_of, IsLater}
-use Rattle.engine_driver.specs.Serving.{has_file, AreChecked, IsAsked, Serves, Drives}
+use Rattle.engine_driver.specs.Serving.{has_file, IsAsked, Serves, Drives}
 
 pub journal_of-append : (front back : List Entry) → journal_of (front ++ back) ≡ journal_of front ++ journal_of back
 journal_of-append front back = map-append (λ (entry : Entry). entry.event) front back

@@ -1,8 +1,8 @@
 -- What was found gives the reply, whatever others do first.
-use Rattle.std.proofs.Common.{◌≡◌, ℕ, Bool, true, false, true≢false, ◌||◌, is_none, if◌then◌else◌, IsTrue, List, ◌++◌, Option, Some, None, unwrap_or, refl, sym, ap, ◌∙◌, subst}
+use Rattle.std.proofs.Common.{◌≡◌, ℕ, Bool, true, false, true≢false, ◌||◌, is_none, if◌then◌else◌, IsTrue, List, Option, Some, None, unwrap_or, refl, sym, ap, ◌∙◌}
 use Rattle.std.proofs.lemmas.List.Folds.{list_any-append}
 use Rattle.ask_history.specs.Sources.{Sources, is_mutation}
-use Rattle.ask_history.specs.Journal.{after, by_mark, call_of, cancels, first_of_two, forestalled, found, is_cancelled, is_closed, reply}
+use Rattle.ask_history.specs.Journal.{after, by_mark, call_of, cancels, first_of_two, forestalled, found, is_cancelled, is_closed}
 use Rattle.ask_history.specs.declared.answers.Answer.{Answer}
 use Rattle.ask_history.specs.declared.answers.Answer.TheVariants as answer
 use Rattle.ask_history.specs.declared.calls.Call.{Call}
@@ -12,7 +12,6 @@ use Rattle.ask_history.specs.declared.events.Mark.TheVariants as mark
 use Rattle.ask_history.proofs.Pushes.{call_of-append}
 use Rattle.journal_laws.proofs.Others.{forestalled_reply}
 use Rattle.engine_driver.specs.History.{Entry, journal_of, IsLater}
-use Rattle.engine_driver.specs.Board.{mark_of, value_of}
 use Rattle.engine_driver.specs.Serving.{IsFound}
 use Rattle.engine_driver.proofs.Later.{later_journal, later_sources}
 

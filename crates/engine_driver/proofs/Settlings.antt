@@ -1,16 +1,16 @@
 -- What a settling by the driver leaves.
-use Rattle.std.proofs.Common.{◌≡◌, ℕ, ◌+◌, ◌<◌, ◌≤◌, Bool, true, false, true≢false, not, ◌||◌, ◌&&◌, ◌==◌, cond, if◌then◌else◌, is_none, is_some, IsTrue, List, [], ◌∷◌, ◌++◌, map, filter, Option, Some, None, refl, sym, ap, ◌∙◌, subst, arith, append-nil}
+use Rattle.std.proofs.Common.{◌≡◌, ℕ, ◌+◌, ◌<◌, ◌≤◌, Bool, true, false, true≢false, not, ◌||◌, ◌==◌, if◌then◌else◌, is_none, is_some, IsTrue, List, [], ◌∷◌, ◌++◌, filter, Option, Some, None, refl, sym, ap, ◌∙◌, subst, arith, append-nil}
 use Rattle.std.specs.List.{list_any, AllByRecursion}
-use Rattle.std.proofs.lemmas.Bool.{and_parts, and_from, eqb-true}
+use Rattle.std.proofs.lemmas.Bool.{and_parts}
 use Rattle.std.proofs.lemmas.Bool.Decides.{nat_tests}
 use Rattle.ask_history.specs.Sources.{Bytes, Sources, is_mutation, mutated}
-use Rattle.ask_history.specs.Engine.{EngineState, is_staged, is_open_in, settled_state, mutation_settled, ask_settled, in_force}
-use Rattle.ask_history.specs.Journal.{accepted, after, call_of, call_under, changed, checked, checked_step, first_of_two, forestalled, is_closed, is_open, is_settled, mutation_only, reply, sources_step, taking_effect}
+use Rattle.ask_history.specs.Engine.{EngineState, is_staged, settled_state, mutation_settled, ask_settled, in_force}
+use Rattle.ask_history.specs.Journal.{accepted, after, call_of, changed, checked, checked_step, forestalled, is_closed, is_open, is_settled, mutation_only, taking_effect}
 use Rattle.ask_history.specs.Legal.{is_legal, is_next, may_follow}
 use Rattle.ask_history.specs.declared.answers.Answer.{Answer}
 use Rattle.ask_history.specs.declared.calls.Call.{Call}
 use Rattle.ask_history.specs.declared.engine.Effect.{Effect}
-use Rattle.ask_history.specs.declared.engine.Effect.TheVariants.{Applies, Dropped}
+use Rattle.ask_history.specs.declared.engine.Effect.TheVariants.{Dropped}
 use Rattle.ask_history.specs.declared.events.Event.{Event}
 use Rattle.ask_history.specs.declared.events.Event.TheVariants.{Settle}
 use Rattle.ask_history.specs.declared.events.Mark.{Mark}
@@ -22,11 +22,11 @@ use Rattle.pc_terms.specs.declared.problems.Problem.{Problem}
 use Rattle.journal_laws.proofs.Settling.{next_kept, next_settled}
 use Rattle.journal_laws.proofs.Tickets.{may_last}
 use Rattle.journal_laws.proofs.Others.{none_behind_close, sources_settled, settled_one}
-use Rattle.engine_driver.specs.History.{Entry, journal_of, IsLater}
-use Rattle.engine_driver.specs.Board.{mark_of, value_of, effect_of, settled_as, settling, Settles, Waits}
+use Rattle.engine_driver.specs.History.{Entry, journal_of}
+use Rattle.engine_driver.specs.Board.{mark_of, effect_of, settled_as, Settles}
 use Rattle.engine_driver.specs.Serving.{has_file, AreChecked, IsAsked, Serves, Drives, IsFound, IsStaging}
 use Rattle.engine_driver.specs.Runs.{Adds}
-use Rattle.engine_driver.proofs.Later.{journal_of-append, all_so, drives_later, later_sources, was_open}
+use Rattle.engine_driver.proofs.Later.{journal_of-append, all_so, drives_later}
 use Rattle.engine_driver.proofs.Additions.{adds_later, adds_one, adds_behind}
 use Rattle.engine_driver.proofs.Asks.{HasAsk, open_in, find_ask, tickets_left, all_left, tickets_of}
 use Rattle.engine_driver.proofs.Replies.{no_memory, call_later}

@@ -1,5 +1,5 @@
 -- What the calls of a board tell, and what they put into the history.
-use Rattle.std.specs.Prelude.{◌≡◌, ◌⊎◌, ℕ, ◌<◌, ◌^◌, Bool, true, false, IsTrue, if◌then◌else◌, List, [], ◌∷◌, ◌++◌, length, Option, Some, None}
+use Rattle.std.specs.Prelude.{◌≡◌, ◌⊎◌, ℕ, ◌<◌, ◌^◌, true, false, IsTrue, if◌then◌else◌, List, [], ◌∷◌, ◌++◌, length, Option, Some, None}
 use Rattle.pc_terms.specs.declared.problems.Problem.{Problem}
 use Rattle.ask_history.specs.Sources.{Bytes, mutated}
 use Rattle.ask_history.specs.Engine.{HasFileSizes, has_file_names}
@@ -19,7 +19,7 @@ use Rattle.engine_driver.specs.declared.board.News.{News}
 use Rattle.engine_driver.specs.declared.board.Posted.{Posted}
 use Rattle.engine_driver.specs.declared.board.Posted.TheVariants as posted
 use Rattle.engine_driver.specs.declared.board.CheckNoted.{CheckNoted}
-use Rattle.engine_driver.specs.declared.board.CheckNoted.TheVariants.{Noted, ShutDown, NoMemory}
+use Rattle.engine_driver.specs.declared.board.CheckNoted.TheVariants.{Noted, ShutDown}
 
 -- ---- looks
 

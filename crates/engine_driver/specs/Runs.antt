@@ -1,5 +1,5 @@
 -- What a driver puts into the history, tells and keeps.
-use Rattle.std.specs.Prelude.{◌≡◌, ⊤, ℕ, Bool, true, if◌then◌else◌, List, [], ◌∷◌, ◌++◌, map, Option, Some, None}
+use Rattle.std.specs.Prelude.{◌≡◌, ⊤, true, if◌then◌else◌, List, [], ◌∷◌, ◌++◌, map, Option, Some}
 use Rattle.std.specs.List.{flat_map}
 use Rattle.pc_terms.specs.declared.problems.Problem.{Problem}
 use Rattle.ask_history.specs.Sources.{Bytes, Sources}

@@ -1,7 +1,6 @@
-use Rattle.std.proofs.Common.{[], ◌∷◌, ◌++◌, inl, inr, refl, ap, ◌∙◌, subst}
+use Rattle.std.proofs.Common.{[], ◌∷◌, ◌++◌, inl, inr, ap, ◌∙◌, subst}
 use Rattle.report_hub.proofs.Reports.{OfEach-told_none, OfEach-told_more}
 use Rattle.engine_driver.specs.Board.{noting, Checks}
-use Rattle.engine_driver.specs.declared.board.CheckNoted.TheVariants.{Noted, ShutDown, NoMemory}
 use Rattle.engine_driver.proofs.Additions.{adds_none, made_quiet, made_one}
 use Rattle.engine_driver.proofs.Checking.{drives_noted, adds_noted, adds_unnoted}
 use Rattle.engine_driver.proofs.checks.note.Goals as goal

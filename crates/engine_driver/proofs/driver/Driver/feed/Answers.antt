@@ -1,11 +1,9 @@
-use Rattle.std.proofs.Common.{◌≡◌, ◌+◌, ◌++◌, ◌∷◌, [], false, List, ℕ, sym, ap, ◌∙◌, subst}
-use Rattle.ask_history.specs.Engine.{EngineState, FeedGives}
-use Rattle.ask_history.specs.Sources.{is_mutation}
-use Rattle.ask_history.specs.declared.engine.Fed.{Fed}
+use Rattle.std.proofs.Common.{◌≡◌, ◌+◌, ◌++◌, ◌∷◌, [], sym, ap, ◌∙◌, subst}
+use Rattle.ask_history.specs.Engine.{EngineState}
 use Rattle.engine_driver.specs.History.{journal_of}
 use Rattle.engine_driver.specs.Serving.{Drives}
 use Rattle.engine_driver.proofs.Asks.{none_next}
-use Rattle.engine_driver.proofs.Feeding.{drives_fed, feeds_open}
+use Rattle.engine_driver.proofs.Feeding.{drives_fed}
 use Rattle.engine_driver.proofs.driver.Driver.feed.Goals as goal
 
 pub feed-requires-clause-new_ticket : goal.feed-requires-clause-new_ticket

@@ -1,4 +1,4 @@
-use Rattle.std.proofs.Common.{refl, sym, ◌∙◌, ap, subst}
+use Rattle.std.proofs.Common.{refl, sym, ◌∙◌, ap}
 use Rattle.report_hub.proofs.Reports.{OfEach-told_none}
 use Rattle.ask_history.specs.declared.answers.Answer.TheVariants as answer
 use Rattle.engine_driver.specs.History.{journal_of}

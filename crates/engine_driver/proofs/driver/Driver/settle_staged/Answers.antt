@@ -2,7 +2,6 @@ use Rattle.std.proofs.Common.{◌+◌, sym, subst}
 use Rattle.ask_history.specs.Engine.{EngineState}
 use Rattle.engine_driver.specs.History.{journal_of}
 use Rattle.engine_driver.specs.Serving.{Drives}
-use Rattle.engine_driver.proofs.Feeding.{staging_open}
 use Rattle.engine_driver.proofs.Replies.{found_done}
 use Rattle.engine_driver.proofs.Settlings.{drives_staged, adds_settled}
 use Rattle.engine_driver.proofs.driver.Driver.settle_staged.Goals as goal

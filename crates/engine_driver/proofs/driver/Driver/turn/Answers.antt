@@ -5,8 +5,8 @@ use Rattle.engine_driver.specs.History.{journal_of}
 use Rattle.engine_driver.specs.Serving.{Drives}
 use Rattle.engine_driver.proofs.Later.{drives_later}
 use Rattle.engine_driver.proofs.Additions.{adds_later, adds_none, made_quiet}
-use Rattle.engine_driver.proofs.Asks.{top_asked, top_opened}
-use Rattle.engine_driver.proofs.Replies.{found_answer, found_none}
+use Rattle.engine_driver.proofs.Asks.{top_asked}
+use Rattle.engine_driver.proofs.Replies.{found_answer}
 use Rattle.engine_driver.proofs.Checking.{check_due, checked_noted, drives_skipped}
 use Rattle.engine_driver.proofs.driver.Driver.turn.Goals as goal
 
