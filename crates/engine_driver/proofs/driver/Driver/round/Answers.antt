@@ -1,0 +1,49 @@
+use Rattle.std.proofs.Common.{refl, sym, ◌∙◌, ap}
+use Rattle.report_hub.proofs.Reports.{OfEach-told_none}
+use Rattle.ask_history.specs.declared.answers.Answer.TheVariants as answer
+use Rattle.engine_driver.specs.History.{journal_of}
+use Rattle.engine_driver.specs.Board.{first_cancelled}
+use Rattle.engine_driver.proofs.Later.{drives_later}
+use Rattle.engine_driver.proofs.Additions.{adds_later, adds_behind, made_quiet, made_behind}
+use Rattle.engine_driver.proofs.Asks.{first_dropped}
+use Rattle.engine_driver.proofs.Replies.{found_cancelled}
+use Rattle.engine_driver.proofs.driver.Driver.round.Goals as goal
+
+pub returns-then-news-clause-drives : goal.returns-then-news-clause-drives
+returns-then-news-clause-drives g c = drives_later _ _ _ _ _ c.look-news.ensures.later c.requires.drives
+
+pub returns-then-news-clause-made : goal.returns-then-news-clause-made
+returns-then-news-clause-made g c =
+    made_quiet g.E.Engine.answer_of g.E.Engine.problems_of _ _ _ _ _ (OfEach-told_none _ _ _) refl (adds_later g.E.Engine.answer_of g.E.Engine.problems_of _ _ c.look-news.ensures.later)
+
+pub settle_ask-requires-clause-drives : goal.settle_ask-requires-clause-drives
+settle_ask-requires-clause-drives g c = drives_later _ _ _ _ _ c.look-news.ensures.later c.requires.drives
+
+pub settle_ask-requires-clause-opened : goal.settle_ask-requires-clause-opened
+settle_ask-requires-clause-opened g c =
+    (first_dropped (journal_of (g.B.Board.history c.look-news.new.self)) c.args.self.now.opened.items c.in-Some.ticket
+    (sym (ap (first_cancelled (journal_of (g.B.Board.history c.look-news.new.self))) c.as_slice.ensures.value) ∙ sym c.look-news.ensures.cancelled ∙ c.in-Some.is)).there
+
+pub settle_ask-requires-clause-right : goal.settle_ask-requires-clause-right
+settle_ask-requires-clause-right g c =
+    found_cancelled g.E.Engine.answer_of (g.B.Board.history c.look-news.new.self) c.in-Some.ticket answer.Cancelled (first_dropped (journal_of (g.B.Board.history c.look-news.new.self)) c.args.self.now.opened.items c.in-Some.ticket
+    (sym (ap (first_cancelled (journal_of (g.B.Board.history c.look-news.new.self))) c.as_slice.ensures.value) ∙ sym c.look-news.ensures.cancelled ∙ c.in-Some.is)).cancelled
+
+pub take_next-requires-clause-drives : goal.take_next-requires-clause-drives
+take_next-requires-clause-drives g c = drives_later _ _ _ _ _ c.look-news.ensures.later c.requires.drives
+
+pub turn-requires-clause-drives : goal.turn-requires-clause-drives
+turn-requires-clause-drives g c = drives_later _ _ _ _ _ c.look-news.ensures.later c.requires.drives
+
+pub returns-in-Some-clause-made : goal.returns-in-Some-clause-made
+returns-in-Some-clause-made g c =
+    made_quiet g.E.Engine.answer_of g.E.Engine.problems_of _ _ _ _ _ (OfEach-told_none _ _ _) refl
+    (adds_behind g.E.Engine.answer_of g.E.Engine.problems_of _ _ _ _ c.look-news.ensures.later c.settle_ask.ensures.adds)
+
+pub returns-in-None-clause-made : goal.returns-in-None-clause-made
+returns-in-None-clause-made g c =
+    made_quiet g.E.Engine.answer_of g.E.Engine.problems_of _ _ _ _ _ (OfEach-told_none _ _ _) refl
+    (adds_behind g.E.Engine.answer_of g.E.Engine.problems_of _ _ _ _ c.look-news.ensures.later c.take_next.ensures.adds)
+
+pub returns-in-None-2-clause-made : goal.returns-in-None-2-clause-made
+returns-in-None-2-clause-made g c = made_behind g.E.Engine.answer_of g.E.Engine.problems_of _ _ _ _ _ _ c.look-news.ensures.later c.turn.ensures.made

@@ -1,0 +1,117 @@
+-- What the calls of a board tell, and what they put into the history.
+use Rattle.std.specs.Prelude.{◌≡◌, ◌⊎◌, ℕ, ◌<◌, ◌^◌, true, false, IsTrue, if◌then◌else◌, List, [], ◌∷◌, ◌++◌, length, Option, Some, None}
+use Rattle.pc_terms.specs.declared.problems.Problem.{Problem}
+use Rattle.ask_history.specs.Sources.{Bytes, mutated}
+use Rattle.ask_history.specs.Engine.{HasFileSizes, has_file_names}
+use Rattle.ask_history.specs.Journal.{accepted, after, call_of, is_closed, is_cancelled, is_settled, reply, taking_effect}
+use Rattle.ask_history.specs.Legal.{is_legal}
+use Rattle.ask_history.specs.declared.answers.Answer.{Answer}
+use Rattle.ask_history.specs.declared.answers.Answer.TheVariants as answer
+use Rattle.ask_history.specs.declared.calls.Call.{Call}
+use Rattle.ask_history.specs.declared.engine.Effect.{Effect}
+use Rattle.ask_history.specs.declared.engine.Effect.TheVariants.{Applies, Dropped}
+use Rattle.ask_history.specs.declared.events.Event.{Event}
+use Rattle.ask_history.specs.declared.events.Event.TheVariants.{Settle, Checked}
+use Rattle.ask_history.specs.declared.events.Mark.{Mark}
+use Rattle.ask_history.specs.declared.events.Mark.TheVariants as mark
+use Rattle.engine_driver.specs.History.{Entry, journal_of, IsLater}
+use Rattle.engine_driver.specs.declared.board.News.{News}
+use Rattle.engine_driver.specs.declared.board.Posted.{Posted}
+use Rattle.engine_driver.specs.declared.board.Posted.TheVariants as posted
+use Rattle.engine_driver.specs.declared.board.CheckNoted.{CheckNoted}
+use Rattle.engine_driver.specs.declared.board.CheckNoted.TheVariants.{Noted, ShutDown}
+
+-- ---- looks
+
+-- the first of these tickets of which a cancel stands
+abbrev pub first_cancelled : List Event → List ℕ → Option ℕ
+first_cancelled journal [] = None
+first_cancelled journal (t ∷ ts) = if is_cancelled journal t then Some t else first_cancelled journal ts
+
+-- A look: how many calls are accepted, whether the session is shut down, and which of the open tickets is cancelled.
+pub record Looks (old new : List Entry) (opened : List ℕ) (news : News) : Type 0 where
+  pub later : IsLater old new
+  pub accepted_calls : news.accepted ≡ accepted (journal_of new)
+  pub shut : news.is_closed ≡ is_closed (journal_of new)
+  pub cancelled : news.cancelled ≡ first_cancelled (journal_of new) opened
+
+-- More calls than these are accepted, or the session is shut down.
+pub record Awaits (old new : List Entry) (count : ℕ) : Type 0 where
+  pub later : IsLater old new
+  pub more : (is_closed (journal_of new) ≡ true) ⊎ (count < accepted (journal_of new))
+
+-- ---- calls
+
+-- The ticket is not settled, and the session is not shut down.
+pub record Waits (journal : List Event) (ticket : ℕ) : Type 0 where
+  pub unshut : is_closed journal ≡ false
+  pub unsettled : is_settled journal ticket ≡ false
+
+-- The call of a ticket, which waits to be fed: an engine may be fed it.
+pub record CanFeed (journal : List Event) (ticket : ℕ) (call : Call) : Type 0 where
+  pub waiting : Waits journal ticket
+  pub called : call_of journal ticket ≡ Some call
+  pub sizes : HasFileSizes call
+  pub names : has_file_names call ≡ true
+  pub few : length (mutated (after journal) call) < 2 ^ 31
+
+-- what is found of an accepted ticket
+abbrev pub Finds : List Event → ℕ → Posted → Type 0
+Finds journal ticket (posted.Call call) = CanFeed journal ticket call
+Finds journal ticket posted.NoMemory = Waits journal ticket
+Finds journal ticket posted.Settled = is_settled journal ticket ≡ true
+
+-- ---- settlings
+
+abbrev pub mark_of : Option Answer → Mark
+mark_of (Some found) = mark.Done
+mark_of None = mark.NoMemory
+
+-- the value that was found; where none was, the mark gives the answer
+abbrev pub value_of : Option Answer → Answer
+value_of (Some found) = found
+value_of None = answer.NoMemory
+
+abbrev pub effect_of : Option Call → Effect
+effect_of None = Dropped
+effect_of (Some mutation) = Applies
+
+-- the settling of a ticket behind a journal, by the driver: its answer is the reply there, with what was found in the
+-- value's place
+abbrev pub settled_as : List Event → ℕ → Option Answer → Entry
+settled_as journal ticket found = record {
+  event = Settle ticket (mark_of found);
+  answer = Some (reply (λ files call. value_of found) journal ticket (mark_of found));
+  problems = None;
+  mine = true;
+}
+
+-- Behind the shutdown every call is settled, and nothing is written.
+abbrev pub settling : List Event → ℕ → Option Answer → List Entry
+settling journal ticket found = if is_closed journal then [] else settled_as journal ticket found ∷ []
+
+-- A ticket is settled behind what others did, and a mutation with it takes effect or not.
+pub record Settles (old new : List Entry) (ticket : ℕ) (found : Option Answer) (effect : Effect) : Type 0 where
+  pub before : List Entry
+  pub later : IsLater old before
+  pub written : new ≡ before ++ settling (journal_of before) ticket found
+  pub becomes : effect ≡ effect_of (taking_effect (journal_of before) ticket (mark_of found))
+  pub legal : IsTrue (is_legal (journal_of new))
+
+-- ---- checks
+
+abbrev pub checking : Bytes → List Problem → Entry
+checking file problems = record { event = Checked file; answer = None; problems = Some problems; mine = true }
+
+-- what is written of a check
+abbrev pub noting : Bytes → List Problem → CheckNoted → List Entry
+noting file problems Noted = checking file problems ∷ []
+noting file problems _ = []
+
+-- A check is noted behind what others did, or it is not: behind the shutdown, or out of memory.
+pub record Checks (old new : List Entry) (file : Bytes) (problems : List Problem) (noted : CheckNoted) : Type 0 where
+  pub before : List Entry
+  pub later : IsLater old before
+  pub written : new ≡ before ++ noting file problems noted
+  pub shut : noted ≡ ShutDown → is_closed (journal_of before) ≡ true
+  pub legal : IsTrue (is_legal (journal_of new))

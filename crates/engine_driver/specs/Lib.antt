@@ -1,0 +1,4 @@
+pub mod History
+pub mod Board
+pub mod Serving
+pub mod Runs
