@@ -1,8 +1,8 @@
 -- The texts of a map of files.
-use Rattle.std.proofs.Common.{◌≡◌, Bool, true, false, cond, List, [], ◌∷◌, Option, Some, None, is_some, ◌||◌, refl, ap}
+use Rattle.std.proofs.Common.{◌≡◌, Bool, true, false, cond, if◌then◌else◌, List, [], ◌∷◌, ◌++◌, map, filter, Option, Some, None, is_some, ◌||◌, refl, ap}
 use Rattle.std.specs.Option.{option_map}
 use Rattle.std.specs.Str.{bytes_eq}
-use Rattle.std.specs.Map.{lookup}
+use Rattle.std.specs.Map.{lookup, keys_of}
 use Rattle.std.proofs.lemmas.Bool.{true≢false}
 use Rattle.indexmap.specs.IndexMap.{insert_entry}
 use Rattle.ask_history.specs.Sources.{Bytes, Sources, is_loaded, put_file, text_of}
@@ -37,3 +37,34 @@ without_text false text loaded rest absent h = absent h
 pub text_of_absent : (files : Sources) (name : Bytes) → is_loaded files name ≡ false → text_of files name ≡ None
 text_of_absent [] name h = refl
 text_of_absent (file ∷ files) name h = without_text (bytes_eq name file.0) file.1 (is_loaded files name) (text_of files name) (text_of_absent files name) h
+
+-- ---- the names of a map of files
+
+pub names_of_texts : (files : List (Bytes × Source)) → map (λ file. file.0) (texts_of files) ≡ keys_of files
+names_of_texts [] = refl
+names_of_texts (file ∷ files) = ap (λ names. file.0 ∷ names) (names_of_texts files)
+
+-- a name is put behind a first one and others
+behind : (first name : Bytes) (loaded : Bool) (rest names : List Bytes) → rest ≡ (if loaded then names else names ++ name ∷ [])
+    → first ∷ rest ≡ (if loaded then first ∷ names else first ∷ names ++ name ∷ [])
+behind first name true rest names e = ap (λ ns. first ∷ ns) e
+behind first name false rest names e = ap (λ ns. first ∷ ns) e
+
+pub keys_of_insert : (files : List (Bytes × Source)) (name : Bytes) (source : Source)
+    → keys_of (insert_entry bytes_eq files name source) ≡ (if is_some (lookup (bytes_eq name) files) then keys_of files else keys_of files ++ name ∷ [])
+keys_of_insert [] name source = refl
+keys_of_insert (file ∷ files) name source =
+    elim (bytes_eq name file.0) as (λ b. keys_of (cond b ((file.0, source) ∷ files) (file ∷ insert_entry bytes_eq files name source)) ≡ (if is_some (cond b (Some file.1) (lookup (bytes_eq name) files)) then file.0 ∷ keys_of files else file.0 ∷ keys_of files ++ name ∷ []))
+    [ true ↦ refl | false ↦ behind file.0 name (is_some (lookup (bytes_eq name) files)) _ (keys_of files) (keys_of_insert files name source) ]
+
+pub keys_of_filter : (test : Bytes → Bool) (files : List (Bytes × Source)) → keys_of (filter (λ file. test file.0) files) ≡ filter test (keys_of files)
+keys_of_filter test [] = refl
+keys_of_filter test (file ∷ files) =
+    elim (test file.0) as (λ b. keys_of (cond b (file ∷ filter (λ file. test file.0) files) (filter (λ file. test file.0) files)) ≡ cond b (file.0 ∷ filter test (keys_of files)) (filter test (keys_of files)))
+    [ true ↦ ap (λ names. file.0 ∷ names) (keys_of_filter test files) | false ↦ keys_of_filter test files ]
+
+pub texts_of_filter : (test : Bytes → Bool) (files : List (Bytes × Source)) → texts_of (filter (λ file. test file.0) files) ≡ filter (λ file. test file.0) (texts_of files)
+texts_of_filter test [] = refl
+texts_of_filter test (file ∷ files) =
+    elim (test file.0) as (λ b. texts_of (cond b (file ∷ filter (λ file. test file.0) files) (filter (λ file. test file.0) files)) ≡ cond b ((file.0, file.1.text) ∷ filter (λ file. test file.0) (texts_of files)) (filter (λ file. test file.0) (texts_of files)))
+    [ true ↦ ap (λ rest. (file.0, file.1.text) ∷ rest) (texts_of_filter test files) | false ↦ texts_of_filter test files ]

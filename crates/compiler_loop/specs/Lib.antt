@@ -1,3 +1,4 @@
+pub mod ChecksView
 pub mod CoreParts
 pub mod CoreState
 pub mod Loaded
@@ -5,3 +6,6 @@ pub mod LoadedView
 pub mod Thin
 pub mod ThinAnswer
 pub mod ThinFits
+pub mod ThinListed
+pub mod ThinProblems
+pub mod Turns

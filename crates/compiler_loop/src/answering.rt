@@ -1,22 +1,18 @@
-ghost use Rattle.std.specs.Prelude.{◌≡◌, ◌≤◌, length, IfOk};
-ghost use Rattle.compiler_loop.specs.LoadedView.{files_of, room_of};
+ghost use Rattle.std.specs.Prelude.{◌≡◌, IfOk};
+ghost use Rattle.compiler_loop.specs.LoadedView.{files_of, IsUnchanged};
 ghost use Rattle.compiler_loop.specs.ThinAnswer.{thin_answer, tree_answer, unread};
-ghost use Rattle.ask_history.specs.Sources.{text_of, put_file, reloaded};
-ghost use Rattle.compiler_loop.specs.CoreParts.{entries_of};
+ghost use Rattle.ask_history.specs.Sources.{text_of};
 
 use crate::loaded::LoadedFiles;
-use crate::tasks::NewFile;
 use crate::thin::{info_at, located};
 use ask_history::{Answer, Call};
 use pc_terms::{NoMemory, Text};
 use std::alloc::Global;
-use std::collections::VecDeque;
 
 /// The answer of an ask over the loaded files.
 pub fn answer(alloc: Global, loaded: &mut LoadedFiles, call: &Call) -> Result<Answer, NoMemory>
     ensures answer { IfOk result (λ found. found ≡ thin_answer (files_of loaded.old) call.now) }
-    ensures files { files_of loaded.new ≡ files_of loaded.old }
-    ensures room { room_of loaded.new ≡ room_of loaded.old }
+    ensures files { IsUnchanged loaded.old loaded.new }
 {
     match call {
         Call::TypeAt(file, offset) => answer_tree(alloc, loaded, file, *offset),
@@ -46,8 +42,7 @@ fn answer_tree(
     offset: u32,
 ) -> Result<Answer, NoMemory>
     ensures answer { IfOk result (λ found. found ≡ tree_answer (files_of loaded.old) offset (text_of (files_of loaded.old) file.now)) }
-    ensures files { files_of loaded.new ≡ files_of loaded.old }
-    ensures room { room_of loaded.new ≡ room_of loaded.old }
+    ensures files { IsUnchanged loaded.old loaded.new }
 {
     if !loaded.is_loaded(file) {
         return Ok(Answer::NoUnit);

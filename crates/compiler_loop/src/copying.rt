@@ -1,12 +1,15 @@
-ghost use Rattle.std.specs.Prelude.{◌≡◌, ◌≤◌, length, All, false, IfOk};
+ghost use Rattle.std.specs.Prelude.{◌≡◌, ◌≤◌, ℕ, List, length, All, false, IfOk};
+ghost use Rattle.std.specs.List.{list_any};
+ghost use Rattle.std.specs.Str.{bytes_eq};
 ghost use Rattle.ask_history.specs.Sources.{is_mutation};
 ghost use Rattle.compiler_loop.specs.CoreParts.{entries_of};
 ghost use Rattle.pc_terms.specs.Bytes.{max_source_bytes};
 
 use crate::source::Source;
-use crate::tasks::NewFile;
+use crate::tasks::{NewFile, Removal};
 use ask_history::Call;
-use pc_terms::{NoMemory, Text};
+use indexmap::IndexSet;
+use pc_terms::{NoMemory, Row, Text};
 use std::alloc::Global;
 use std::collections::VecDeque;
 
@@ -34,10 +37,51 @@ pub fn new_files(alloc: Global, entries: &[(Text, Text)]) -> Result<VecDeque<New
 {
     let mut files = VecDeque::new(alloc);
     for (name, text) in entries {
-        files.push_back(NewFile {
-            name: name.clone()?,
-            source: Source::new(alloc, text)?,
-        })?;
+        files.push_back(new_file(alloc, name, text)?)?;
     }
     Ok(files)
+}
+
+fn new_file(alloc: Global, name: &Text, text: &Text) -> Result<NewFile, NoMemory>
+    requires { length text.now ≤ max_source_bytes }
+    ensures name { IfOk result (λ file. file.name ≡ name.now) }
+    ensures text { IfOk result (λ file. file.source.text ≡ text.now) }
+{
+    Ok(NewFile {
+        name: name.clone()?,
+        due: name.clone()?,
+        source: Source::new(alloc, text)?,
+    })
+}
+
+/// Copies the names of a removal.
+pub fn removal(alloc: Global, names: &[Text]) -> Result<Removal, NoMemory>
+    ensures { IfOk result (λ removal. removal.names ≡ names.now) }
+{
+    Ok(Removal {
+        names: copied_names(alloc, names)?,
+        gone: name_set(alloc, names)?,
+    })
+}
+
+/// Copies names.
+pub fn copied_names(alloc: Global, names: &[Text]) -> Result<Row<Text>, NoMemory>
+    ensures { IfOk result (λ copies. copies ≡ names.now) }
+{
+    let mut copies = Row::new(alloc);
+    for name in names {
+        copies.push(name.clone()?)?;
+    }
+    Ok(copies)
+}
+
+#[tactic(auto, using(crate::proofs::NameLemmas::knows_inserted, std::proofs::lemmas::Grind::common_steps))]
+fn name_set(alloc: Global, names: &[Text]) -> Result<IndexSet<Text>, NoMemory>
+    ensures { IfOk result (λ set. (name : List ℕ) → list_any (bytes_eq name) set.keys ≡ list_any (bytes_eq name) names.now) }
+{
+    let mut set = IndexSet::new(alloc);
+    for name in names {
+        let _is_new = set.insert(name.clone()?)?;
+    }
+    Ok(set)
 }

@@ -1,25 +1,25 @@
-ghost use Rattle.std.specs.Prelude.{◌≡◌, ◌≤◌, length, IfOk};
+ghost use Rattle.std.specs.Prelude.{◌≡◌, IfOk};
 ghost use Rattle.std.specs.Option.{ForSome};
-ghost use Rattle.compiler_loop.specs.LoadedView.{room_of};
+ghost use Rattle.compiler_loop.specs.CoreParts.{IsReady};
 
-use crate::answering::answer;
-use crate::copying::copied_ask;
 use crate::loaded::LoadedFiles;
-use crate::staging::{apply, stage};
-use crate::tasks::{Ask, Staged};
+use crate::staging::stage;
+use crate::tasks::{Staged, Task};
+use crate::working::{answer_top, check_first, close_all, open_task, put_in_force};
 use ask_history::{Call, Effect, Engine, Fed, Turn};
 use pc_terms::NoMemory;
+use safe_points::Stack;
 use std::alloc::Global;
 
-/// The engine of the program: it keeps the loaded files with what they were read as, the open ask, and a
-/// staged reload.
+/// The engine of the program: it keeps the loaded files with what they were read as, the tasks of the open asks, and a
+/// staged mutation.
 #[derive(Drop)]
 pub struct Core {
     pub(crate) alloc: Global,
     pub(crate) loaded: LoadedFiles,
-    pub(crate) ask: Option<Ask>,
+    pub(crate) tasks: Stack<Task>,
     pub(crate) staged: Option<Staged>,
-    ghost room: { ForSome staged (λ staged. length staged.files.items ≤ room_of loaded) },
+    ghost ready: { ForSome staged (IsReady loaded) },
 }
 
 impl Core {
@@ -34,7 +34,7 @@ impl Core {
         Ok(Core {
             alloc,
             loaded: LoadedFiles::new(alloc),
-            ask: None,
+            tasks: Stack::new(alloc)?,
             staged: None,
         })
     }
@@ -53,6 +53,8 @@ impl Engine for Core {
     ghost use Rattle.compiler_loop.specs.CoreState.{state_of};
     ghost use Rattle.compiler_loop.specs.ThinAnswer.{thin_answer};
     ghost use Rattle.compiler_loop.specs.ThinFits.{thin_fits};
+    ghost use Rattle.compiler_loop.specs.ThinListed.{thin_listed};
+    ghost use Rattle.compiler_loop.specs.ThinProblems.{thin_problems};
 
     ghost state = { state_of };
 
@@ -60,12 +62,16 @@ impl Engine for Core {
 
     ghost answer_of = { thin_answer };
 
+    ghost problems_of = { thin_problems };
+
     ghost fits = { thin_fits };
+
+    ghost listed = { thin_listed };
 
     fn feed(&mut self, ticket: u64, call: &Call) -> Fed {
         match call {
-            Call::Reload(entries) => {
-                match stage(self.alloc, &mut self.loaded, ticket, entries.as_slice()) {
+            Call::Reload(_) | Call::Remove(_) => {
+                match stage(self.alloc, &mut self.loaded, ticket, call) {
                     Ok(staged) => {
                         self.staged = Some(staged);
                         Fed::Staged
@@ -73,40 +79,34 @@ impl Engine for Core {
                     Err(NoMemory {}) => Fed::NoMemory,
                 }
             }
-            _ => match copied_ask(call) {
-                Ok(call) => {
-                    self.ask = Some(Ask { ticket, call });
-                    Fed::Taken
-                }
+            _ => match open_task(&mut self.tasks, ticket, call) {
+                Ok(()) => Fed::Taken,
                 Err(NoMemory {}) => Fed::NoMemory,
             },
         }
     }
 
     fn turn(&mut self, _steps: u64) -> Turn {
-        match &self.ask {
-            Some(ask) => match answer(self.alloc, &mut self.loaded, &ask.call) {
-                Ok(found) => Turn::Ready(ask.ticket, found),
-                Err(NoMemory {}) => Turn::NoMemory(ask.ticket),
-            },
-            None => Turn::Idle,
+        match self.tasks.top() {
+            Some(ticket) => answer_top(self.alloc, &mut self.loaded, &mut self.tasks, ticket),
+            None => check_first(self.alloc, &mut self.loaded),
         }
     }
 
     fn settled(&mut self, ticket: u64, effect: Effect) {
         if !self.has_staged(ticket) {
-            self.ask = None;
+            let _task = self.tasks.remove(ticket);
             return;
         }
         if let Some(staged) = self.staged.take() {
             match effect {
-                Effect::Applies => apply(&mut self.loaded, staged.files),
+                Effect::Applies => put_in_force(&mut self.loaded, &mut self.tasks, staged),
                 Effect::Dropped => {}
             }
         }
     }
 
     fn stop(&mut self) {
-        self.ask = None;
+        close_all(&mut self.tasks);
     }
 }

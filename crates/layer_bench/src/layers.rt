@@ -1,31 +1,116 @@
-//! The layers that can be measured.
+//! The layers that can be measured. Each gives a number, so that none of its work can be left out.
 
 ghost use Rattle.std.specs.Prelude.{◌≡◌, ◌≤◌, length, IfOk};
 ghost use Rattle.pc_terms.specs.Bytes.{max_source_bytes};
+ghost use Rattle.positioned_trees.specs.Located.{IsPlaced, located};
 ghost use Rattle.scan_tokens.specs.Scanned.{scanned};
+ghost use Rattle.source_grammar.specs.Lexemes.{lexemes};
+ghost use Rattle.layer_bench.specs.Counts.{IsTypeEnd, IsCount};
 
-use pc_terms::NoMemory;
-use scan_tokens::scan;
+use parse_parts::{Part, parse_type};
+use pc_terms::{NoMemory, Row};
+use positioned_trees::{SourceUnit, is_placed, locate};
+use scan_tokens::{Tokens, scan};
 use std::alloc::Global;
 
 #[derive(Clone, Copy, Debug)]
 pub enum Layer {
     /// The scanner, with the newline rule.
     Scan,
+    /// The reader of types, at the first token.
+    Types,
+    /// The tree at the middle of a text that is one type.
+    Locate,
 }
 
-/// How many tokens the layer gives of a text, which it reads so many times.
-pub fn count_of(alloc: Global, layer: Layer, text: &str, times: u32) -> Result<usize, NoMemory>
-    requires small { length text.now ≤ max_source_bytes }
+// How many tokens a text has.
+fn token_count(alloc: Global, text: &str, times: u32) -> Result<usize, NoMemory>
+    requires { length text.now ≤ max_source_bytes }
     ensures { IfOk result (λ count. count ≡ length (scanned text.now).tokens) }
 {
+    let mut count = scan(alloc, text)?.tokens.len();
+    for _ in 1..times {
+        count = scan(alloc, text)?.tokens.len();
+    }
+    Ok(count)
+}
+
+#[tactic(auto, unfolding(scan_tokens::specs::Scanned::scanned))]
+fn tokens_of(alloc: Global, text: &str) -> Result<Tokens, NoMemory>
+    requires { length text.now ≤ max_source_bytes }
+    ensures exact { IfOk result (λ tokens. tokens ≡ scanned text.now) }
+    ensures scanned { IfOk result (λ tokens. tokens ≡ scanned tokens.text) }
+    ensures short { IfOk result (λ tokens. length tokens.text ≤ max_source_bytes) }
+{
+    scan(alloc, text)
+}
+
+fn end_once(alloc: Global, tokens: &Tokens) -> Result<u32, NoMemory>
+    requires short { length tokens.now.text ≤ max_source_bytes }
+    requires scanned { tokens.now ≡ scanned tokens.now.text }
+    ensures { IfOk result (IsTypeEnd (lexemes tokens.now)) }
+{
+    match parse_type(alloc, tokens, 0)? {
+        Part::Read(_, end) | Part::NotHere(end) | Part::TooHigh(end) => Ok(end),
+    }
+}
+
+// The number of the token at which the type ends, or that no type admits.
+fn type_end(alloc: Global, text: &str, times: u32) -> Result<usize, NoMemory>
+    requires { length text.now ≤ max_source_bytes }
+    ensures { IfOk result (IsTypeEnd (lexemes (scanned text.now))) }
+{
+    let tokens = tokens_of(alloc, text)?;
+    let mut end = end_once(alloc, &tokens)?;
+    for _ in 1..times {
+        end = end_once(alloc, &tokens)?;
+    }
+    Ok(end as usize)
+}
+
+fn located_in(unit: &SourceUnit, offset: u32, times: u32) -> Option<u32>
+    requires { IsPlaced unit.now }
+    ensures { result ≡ located unit.now offset }
+{
+    let mut id = locate(unit, offset);
+    for _ in 1..times {
+        id = locate(unit, offset);
+    }
+    id
+}
+
+// The id of the tree, and `None` where the text is no type.
+fn middle_tree(alloc: Global, text: &str, times: u32) -> Result<Option<usize>, NoMemory>
+    requires { length text.now ≤ max_source_bytes }
+{
+    let tokens = tokens_of(alloc, text)?;
+    let Part::Read(root, _) = parse_type(alloc, &tokens, 0)? else {
+        return Ok(None);
+    };
+    let unit = SourceUnit {
+        root,
+        problems: Row::new(alloc),
+        length: text.len() as u32,
+    };
+    if !is_placed(&unit) {
+        return Ok(None);
+    }
+    Ok(located_in(&unit, unit.length / 2, times).map(|id| id as usize))
+}
+
+/// What a layer gives of a text, which it reads so many times, or `None` where it cannot be run over this text.
+pub fn count_of(
+    alloc: Global,
+    layer: Layer,
+    text: &str,
+    times: u32,
+) -> Result<Option<usize>, NoMemory>
+    requires small { length text.now ≤ max_source_bytes }
+    ensures { IfOk result (IsCount layer text.now) }
+{
     match layer {
-        Layer::Scan => {
-            let mut count = scan(alloc, text)?.tokens.len();
-            for _ in 1..times {
-                count = scan(alloc, text)?.tokens.len();
-            }
-            Ok(count)
-        }
+        Layer::Scan => Ok(Some(token_count(alloc, text, times)?)),
+        Layer::Types => Ok(Some(type_end(alloc, text, times)?)),
+        Layer::Locate => middle_tree(alloc, text, times),
     }
 }

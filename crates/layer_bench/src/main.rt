@@ -28,7 +28,8 @@ fn run(rt: &(impl Env + Files + AllocGlobal + Print)) -> Result<(), Refused> {
     let count = count_of(alloc, work.layer, text.as_str(), work.times).map_err(
         |_| Refused::NoMemory,
     )?;
-    println!(rt; "{count} tokens").map_err(Refused::Outside)
+    let count = count.ok_or(Refused::NoType)?;
+    println!(rt; "{count}").map_err(Refused::Outside)
 }
 
 fn main(rt: HostRuntime) -> ExitCode {

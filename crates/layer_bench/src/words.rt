@@ -1,7 +1,8 @@
 //! The words of the command line.
 
 ghost use Rattle.std.specs.Option.{option_map};
-ghost use Rattle.std.specs.Prelude.{string_bytes, slice_get, ◌≡◌, ◌≤◌, ◌↔◌, IsSome, IfOk, OnOk, codes, length};
+ghost use Rattle.std.specs.Prelude.{string_bytes, slice_get, ◌≡◌, ◌≤◌, IfOk, OnOk, length};
+ghost use Rattle.layer_bench.specs.Counts.{layer_named, layer_word};
 
 use crate::layers::Layer;
 use crate::refused::Refused;
@@ -16,16 +17,22 @@ pub struct Work {
 }
 
 fn layer_of(word: &str) -> Option<Layer>
-    ensures { IsSome result ↔ (word.now ≡ codes "scan") }
+    ensures { result ≡ layer_named word.now }
 {
-    (word == "scan").then_some(Layer::Scan)
+    match word {
+        "scan" => Some(Layer::Scan),
+        "types" => Some(Layer::Types),
+        "locate" => Some(Layer::Locate),
+        _ => None,
+    }
 }
 
 /// The work that the words after the program's name ask for.
 pub fn work_of(alloc: Global, words: &[String]) -> Result<Work, Refused>
     ensures count { OnOk result (length words.now ≡ 3) }
     ensures usage { result ≡ Err Refused.Usage → ¬ (length words.now ≡ 3) }
-    ensures unknown { result ≡ Err Refused.UnknownLayer → ¬ (option_map string_bytes (slice_get words.now 0) ≡ Some (codes "scan")) }
+    ensures unknown { result ≡ Err Refused.UnknownLayer → layer_word (option_map string_bytes (slice_get words.now 0)) ≡ None }
+    ensures layer { IfOk result (λ work. layer_word (option_map string_bytes (slice_get words.now 0)) ≡ Some work.layer) }
     ensures name { IfOk result (λ work. option_map string_bytes (slice_get words.now 1) ≡ Some (string_bytes work.name)) }
     ensures times { IfOk result (λ work. 1 ≤ work.times) }
 {

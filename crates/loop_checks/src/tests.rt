@@ -1,7 +1,9 @@
 //! What a core answers about the tree at an offset. In each row one ▮ marks the offset of the ask, and two the
 //! span of the tree that is found.
 
-ghost use Rattle.std.specs.Prelude.{◌≡◌, ◌<◌, ◌≤◌, ◌+◌, [], ◌∷◌, None, length, IfOk, OnOk};
+ghost use Rattle.std.specs.Prelude.{◌≡◌, ◌<◌, ◌≤◌, ◌+◌, [], ◌∷◌, true, None, length};
+ghost use Rattle.std.specs.Result.{IfOk, OnOk};
+ghost use Rattle.ask_history.specs.Engine.{is_file_name};
 ghost use Rattle.ask_history.specs.declared.calls.Call.TheVariants.{Reload};
 ghost use Rattle.compiler_loop.specs.CoreState.{state_of};
 ghost use Rattle.pc_terms.specs.Bytes.{max_source_bytes};
@@ -112,6 +114,16 @@ static UNREAD: [&str; 16] = [
     " ",
 ];
 
+/// Whether a file may have this name.
+pub fn is_name(name: &str) -> bool
+    ensures { result ≡ is_file_name name.now }
+{
+    match name.as_bytes() {
+        [] => false,
+        [first, ..] => *first != b'<',
+    }
+}
+
 fn reload(alloc: Global, name: &str, text: &str) -> Result<Call, NoMemory>
     ensures { IfOk result (λ call. call ≡ Reload ((name.now, text.now) ∷ [])) }
 {
@@ -125,6 +137,7 @@ fn reload(alloc: Global, name: &str, text: &str) -> Result<Call, NoMemory>
 fn load(alloc: Global, core: &mut Core, ticket: u64, name: &str, text: &str) -> Result<(), NoMemory>
     requires nothing_open { (state_of core.old).asks ≡ [] }
     requires nothing_staged { (state_of core.old).staged ≡ None }
+    requires name { is_file_name name.now ≡ true }
     requires small { length text.now ≤ max_source_bytes }
     requires few { length (state_of core.old).sources < 1024 }
     ensures nothing_open { OnOk result ((state_of core.new).asks ≡ []) }
@@ -152,6 +165,7 @@ fn ask(
 ) -> Result<Option<Answer>, NoMemory>
     requires nothing_open { (state_of core.old).asks ≡ [] }
     requires nothing_staged { (state_of core.old).staged ≡ None }
+    requires name { is_file_name file.now ≡ true }
     requires few { length (state_of core.old).sources ≤ 1024 }
 {
     let call = Call::TypeAt(Text::new(alloc, file)?, offset);
@@ -164,7 +178,7 @@ fn ask(
     core.settled(ticket, Effect::Dropped);
     let next = core.turn(1);
     match (turn, next) {
-        (Turn::Ready(_, answer), Turn::Idle) => Ok(Some(answer)),
+        (Turn::Ready(_, answer), Turn::Checked(_, _)) => Ok(Some(answer)),
         (Turn::NoMemory(_), _) => Err(NoMemory {}),
         (_, _) => Ok(None),
     }
@@ -292,6 +306,9 @@ fn answer_of_two(
     file: &str,
     offset: u32,
 ) -> Result<Option<Answer>, NoMemory>
+    requires first_name { is_file_name first.0.now ≡ true }
+    requires second_name { is_file_name second.0.now ≡ true }
+    requires name { is_file_name file.now ≡ true }
     requires first { length first.1.now ≤ max_source_bytes }
     requires second { length second.1.now ≤ max_source_bytes }
 {
@@ -309,6 +326,7 @@ fn answered_of_two(
     file: &str,
     marked: &str,
 ) -> Result<String, Fail> {
+    assert!(rt; is_name(first.0) && is_name(second.0) && is_name(file));
     assert!(rt; first.1.len() <= MAX_SOURCE_BYTES);
     assert!(rt; second.1.len() <= MAX_SOURCE_BYTES);
     let (text, offset) = unmarked(rt.alloc(), marked)?;

@@ -5,3 +5,5 @@ pub mod PreOrder
 pub mod Spans
 pub mod Standing
 pub mod Walks
+pub mod Siblings
+pub mod Apart

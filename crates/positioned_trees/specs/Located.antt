@@ -1,6 +1,6 @@
 -- The tree that is found at an offset.
-use Rattle.std.specs.Prelude.{◌≡◌, ℕ, ◌≤◌, ◌==◌, nat_lt, nat_le, Bool, true, ◌&&◌, ◌||◌, if◌then◌else◌, List, length, map, Option, option_map, slice_index_or}
-use Rattle.std.specs.List.{All, filter, reduce, IsFirstBest}
+use Rattle.std.specs.Prelude.{◌≡◌, ℕ, ◌≤◌, ◌==◌, nat_lt, nat_le, Bool, true, ◌&&◌, ◌||◌, if◌then◌else◌, List, length, map, Option, option_map, slice_index_or, ◌⊎◌}
+use Rattle.std.specs.List.{All, AllPairs, filter, reduce, IsFirstBest}
 use Rattle.pc_terms.specs.declared.problems.Span.{Span}
 use Rattle.positioned_trees.specs.Trees.{Placed, placed_from, all_trees, height}
 use Rattle.positioned_trees.specs.declared.locating.Found.{Found}
@@ -72,6 +72,24 @@ pub record IsChosen (unit : SourceUnit) (offset id : ℕ) : Type 0 where
   pub best : IsFirstBest beats (candidates offset (placed_from 0 unit.root)) (length (candidates offset (placed_from 0 unit.root))) place
   pub only : (other : ℕ) → IsFirstBest beats (candidates offset (placed_from 0 unit.root)) (length (candidates offset (placed_from 0 unit.root))) other → other ≡ place
   pub named : (other : Found) → (slice_index_or (candidates offset (placed_from 0 unit.root)) place other).id ≡ id
+
+-- ---- siblings that do not overlap
+
+-- one of the spans ends where the other starts, or before
+abbrev pub AreApart : Span → Span → Type 0
+AreApart a b = (a.end ≤ b.start) ⊎ (b.end ≤ a.start)
+
+-- the spans of a tree's opaque kids
+abbrev pub opaque_spans : Tree → List Span
+opaque_spans tree = map (λ kid. (out-Tree kid).span) (filter (λ kid. (out-Tree kid).opaque) (out-Tree tree).kids)
+
+-- no two opaque kids of a tree overlap
+abbrev pub KeepsKidsApart : Tree → Type 0
+KeepsKidsApart tree = AllPairs AreApart (opaque_spans tree)
+
+-- those of the spans that are not empty and hold the offset
+abbrev pub holding : ℕ → List Span → List Span
+holding offset spans = filter (λ span. nat_lt span.start span.end && holds_offset span offset) spans
 
 -- ---- what the kids' spans say of all trees
 

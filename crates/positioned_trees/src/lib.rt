@@ -13,7 +13,7 @@ pub use details::{
     Access, Detail, ImportClause, MethodParts, Modifiers, Name, ParamKeyword, ParamParts,
     RightSide, Selector, TemplateParts, TypeParamParts, ValueParts, Variance,
 };
-pub use laws::law_enclosed;
+pub use laws::{law_enclosed, law_few_kids};
 pub use locating::{MAX_HEIGHT, locate};
 pub use numbering::number;
 pub use trees::{SourceUnit, Tree};

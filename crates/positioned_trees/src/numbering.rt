@@ -1,8 +1,9 @@
 //! The numbers of trees.
 
 ghost use Rattle.std.specs.Prelude.{◌≡◌, ◌≤◌, ◌+◌, ℕ, length};
+ghost use Rattle.std.specs.List.{All};
 ghost use Rattle.std.specs.Option.{IfSome};
-ghost use Rattle.positioned_trees.specs.Located.{Stands, max_height};
+ghost use Rattle.positioned_trees.specs.Located.{KeepsKidsApart, Stands, max_height};
 ghost use Rattle.positioned_trees.specs.Trees.{AreInPreOrder, all_trees, fitting, height, numbered};
 
 use crate::Tree;
@@ -20,6 +21,7 @@ pub fn number(alloc: Global, tree: &mut Tree, start: u32) -> Option<u32>
     ensures ids { IfSome result (λ _. AreInPreOrder start tree.new) }
     ensures count { IfSome result (λ next. next ≡ start + length (all_trees tree.new)) }
     ensures places { IfSome result (λ _. (room : ℕ) → Stands room tree.old → Stands room tree.new) }
+    ensures apart { IfSome result (λ _. All KeepsKidsApart (all_trees tree.old) → All KeepsKidsApart (all_trees tree.new)) }
 {
     tree.id = start;
     let mut next = start.checked_add(1)?;

@@ -1,22 +1,9 @@
 //! Runs schedules of an editor's session.
 #![tactic(auto)]
 
-mod alone;
-mod ending;
-mod input;
-mod modes;
-mod played;
-mod playing;
-mod report;
-mod run;
-mod serving;
-mod shown;
-mod telling;
-
-use alone::run_alone;
 use compiler_loop::Core;
 use pc_outside::{Sink, StdFiles, WriterSink};
-use pc_terms::NoMemory;
+use session_run::{SinkReporter, run_alone};
 use std::process::ExitCode;
 use std::rt::Env;
 use std::{env, io};
@@ -36,17 +23,23 @@ fn main(rt: HostRuntime) -> ExitCode {
     let mut files = StdFiles::new(&rt);
     let mut out = WriterSink::new(rt.stdout());
     let mut err = WriterSink::new(rt.stderr());
-    match Core::new(alloc) {
-        Ok(mut engine) => {
-            let report = run_alone(alloc, &words, &mut files, &mut out, &mut err, &mut engine);
+    let reporter = SinkReporter::new(alloc, WriterSink::new(rt.stderr()));
+    match (Core::new(alloc), Box::new(alloc, reporter)) {
+        (Ok(mut engine), Ok(reporter)) => {
+            let report = run_alone(
+                alloc,
+                &words,
+                &mut files,
+                &mut out,
+                &mut err,
+                &mut engine,
+                reporter,
+            );
             ExitCode::from(report.status)
         }
-        Err(NoMemory {}) => {
+        _ => {
             let _ = err.put(b"no memory\n");
             ExitCode::from(7)
         }
     }
 }
-
-#[cfg(test)]
-mod tests;

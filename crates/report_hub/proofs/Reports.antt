@@ -6,7 +6,7 @@ use Rattle.report_hub.specs.Telling.{Finding, ReporterState, WasTold}
 use Rattle.report_hub.specs.Hub.{OfSlot, OfEach, IsTold, IsToldMost}
 use Rattle.report_hub.specs.Told.{Nothing, Keeps, LeavesOut, WasToldMost}
 
-WasToldMost-none : (state : ReporterState) → WasToldMost [] state state
+pub WasToldMost-none : (state : ReporterState) → WasToldMost [] state state
 WasToldMost-none state = record {
   kept = [];
   left = 0;
@@ -21,11 +21,11 @@ rose_more left before now after most one = omega arith
 
 WasToldMost-more : (findings : List Finding) (finding : Finding) (old now new : ReporterState) → WasToldMost findings old now → WasTold finding now new → WasToldMost (findings ++ finding ∷ []) old new
 WasToldMost-more findings finding old now new most one = elim one.0 [
-  | inl told ↦ record {
+  | inl once ↦ record {
     kept = most.kept ++ finding ∷ [];
     left = most.left;
     in_order = Keeps findings most.kept most.left finding most.in_order;
-    told = told ∙ ap (λ front. front ++ finding ∷ []) most.told ∙ append_assoc old.told most.kept (finding ∷ []);
+    told = once.0 ∙ ap (λ front. front ++ finding ∷ []) most.told ∙ append_assoc old.told most.kept (finding ∷ []);
     rose = omega (arith, most.rose, one.1);
     never_falls = omega (arith, most.never_falls, one.1);
   }

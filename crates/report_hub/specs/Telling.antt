@@ -21,13 +21,13 @@ abbrev pub Appends : {V E : Type 0} → Result V E → Finding → List Finding 
 Appends (Ok done) finding told told' = told' ≡ told ++ finding ∷ []
 Appends (Err failed) finding told told' = told' ≡ told
 
--- what a report does to the count of faults
+-- What a report does to the count of faults. One that is told leaves it, so that a report that failed is not made again.
 abbrev pub ReportCounts : {V E : Type 0} → Result V E → ℕ → ℕ → Type 0
-ReportCounts (Ok done) before now = before ≤ now
+ReportCounts (Ok done) before now = now ≡ before
 ReportCounts (Err failed) before now = Rose before now × (before ≤ now)
 
--- Once a reporter was told a finding: it was told what it had been told before and then this finding, unless the report
--- failed, and then its count of faults rose.
+-- Once a reporter was told a finding: it was told what it had been told before and then this finding, and no report failed;
+-- or the report failed, and then its count of faults rose.
 abbrev pub WasTold : Finding → ReporterState → ReporterState → Type 0
 WasTold finding old new =
-    ((new.told ≡ old.told ++ finding ∷ []) ⊎ ((new.told ≡ old.told) × Rose old.faults new.faults)) × (old.faults ≤ new.faults)
+    (((new.told ≡ old.told ++ finding ∷ []) × (new.faults ≡ old.faults)) ⊎ ((new.told ≡ old.told) × Rose old.faults new.faults)) × (old.faults ≤ new.faults)

@@ -15,6 +15,7 @@ mod scanner;
 mod shapes;
 mod tokens;
 
+pub use characters::{Class, class_of, first};
 pub use kinds::is_reserved_word;
 pub use laws::{law_gaps, law_newlines, law_numbers, law_one_division, law_order};
 pub use scanner::scan;

@@ -23,15 +23,12 @@ use Rattle.script_text.specs.Standing.{holder_at, sibling_at, does_not_fall, is_
 -- ---- orders
 
 abbrev pub exactly_one : List Bytes → Option Bytes
-exactly_one [] = None
 exactly_one (first ∷ []) = Some first
-exactly_one (first ∷ second ∷ rest) = None
+exactly_one _ = None
 
 abbrev pub exactly_two : List Bytes → Option (Bytes × Bytes)
-exactly_two [] = None
-exactly_two (first ∷ []) = None
 exactly_two (first ∷ second ∷ []) = Some (first, second)
-exactly_two (first ∷ second ∷ third ∷ rest) = None
+exactly_two _ = None
 
 -- the pairs that these words give, after these names and entries
 abbrev pub pairs_from : List Bytes → List (Bytes × Bytes) → List Bytes → Option (List (Bytes × Bytes))

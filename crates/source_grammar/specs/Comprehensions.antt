@@ -10,7 +10,7 @@ use Rattle.positioned_trees.specs.declared.trees.Tree.TheFolds.{fold-Tree}
 use Rattle.positioned_trees.specs.declared.trees.Tree.TheViews.{out-Tree, roll-Tree}
 use Rattle.scan_tokens.specs.Words.{Bytes}
 use Rattle.source_grammar.specs.Lexemes.{Place}
-use Rattle.source_grammar.specs.Patterns.{Pat, LastAlternative, MoreAlternatives, Pat1, InfixPat, TypedVar, TypedWild, BoundPat, Pat3, LastOperand, MoreOperands, SPat, WildPat, VarPat, PatInParentheses, PairPat, TriplePat}
+use Rattle.source_grammar.specs.Patterns.{Pat, LastAlternative, MoreAlternatives, Pat1, InfixPat, Pat3, LastOperand, MoreOperands, SPat, WildPat, VarPat, PatInParentheses, PairPat, TriplePat}
 use Rattle.source_grammar.specs.Placeholders.{Built, lambda_param, free_of}
 use Rattle.source_grammar.specs.Spans.{enclosing, span_in, labelled, unlabelled, with_detail, added}
 
@@ -23,9 +23,7 @@ abbrev mutual
 
   pub is_generator_pat1 : Pat1 → Bool
   is_generator_pat1 (InfixPat pat) = is_generator_pat3 pat
-  is_generator_pat1 (TypedVar id point type) = false
-  is_generator_pat1 (TypedWild place point type) = false
-  is_generator_pat1 (BoundPat id sign pat) = false
+  is_generator_pat1 _ = false
 
   pub is_generator_pat3 : Pat3 → Bool
   is_generator_pat3 (LastOperand pat) = is_generator_spat pat

@@ -7,7 +7,7 @@ use Rattle.scan_tokens.specs.declared.tokens.TokenKind.TheVariants as token
 use Rattle.source_grammar.specs.Brackets.{has_newline, has_no_case, is_case_role, is_piece, role}
 use Rattle.source_grammar.specs.Comprehensions.{is_generator_pat}
 use Rattle.source_grammar.specs.Definitions.{ParList, items, OnlyLastRepeats, ProperImport, ProperMods}
-use Rattle.source_grammar.specs.Expressions.{ListKind, WithinExpr, OfProcedure, LamHead, PrefixSign, Minus, Sep, Expr, Lambda, IfThen, IfElse, WhileDo, DoThenWhile, TryAlone, TryCatch, TryFinally, TryCatchFinally, ForRound, ForCurly, ThrowOf, ReturnAlone, ReturnOf, AssignName, AssignSelect, AssignApply, InfixExpr, TypedExpr, MatchExpr, Enums, LastGen, MoreGens, Gen, GenOf, Guards, NoGuards, MoreGuards, Infix, LastPrefix, MorePrefixes, Prefix, Unsigned, Signed, Prim, LiteralPrim, MinusPrim, Placeholder, ThisPrim, SuperPrim, NamePrim, UnitPrim, ExprInParentheses, PairPrim, TriplePrim, BlockPrim, CasesPrim, NewOf, NewWith, SelectPrim, SelectHole, TypeApplyPrim, ApplyPrim, EtaPrim, Args, NoArgs, ExprArgs, BlockArg, CasesArg, ExprList, LastExpr, MoreExprs, Block, Statements, LambdaBlock, BStats, LastBStat, MoreBStats, BStat, ImportBStat, DefBStat, ExprBStat, EmptyBStat, BrokenBStat, Cases, LastCase, MoreCases, Case, CaseOf, GuardedCase, Def, ValueDef, MethodDef, ProcedureDef, AliasDef}
+use Rattle.source_grammar.specs.Expressions.{ListKind, WithinExpr, OfProcedure, LamHead, PrefixSign, Minus, Sep, Expr, Lambda, IfThen, IfElse, WhileDo, DoThenWhile, TryAlone, TryCatch, TryFinally, TryCatchFinally, ForRound, ForCurly, ThrowOf, ReturnAlone, ReturnOf, AssignName, AssignSelect, AssignApply, InfixExpr, TypedExpr, MatchExpr, Enums, LastGen, MoreGens, Gen, GenOf, Guards, NoGuards, MoreGuards, Infix, LastPrefix, MorePrefixes, Prefix, Unsigned, Signed, Prim, MinusPrim, NamePrim, ExprInParentheses, PairPrim, TriplePrim, BlockPrim, CasesPrim, NewOf, NewWith, SelectPrim, SelectHole, TypeApplyPrim, ApplyPrim, EtaPrim, Args, NoArgs, ExprArgs, BlockArg, CasesArg, ExprList, LastExpr, MoreExprs, Block, Statements, LambdaBlock, BStats, LastBStat, MoreBStats, BStat, ImportBStat, DefBStat, ExprBStat, EmptyBStat, BrokenBStat, Cases, LastCase, MoreCases, Case, CaseOf, GuardedCase, Def, ValueDef, MethodDef, ProcedureDef, AliasDef}
 use Rattle.source_grammar.specs.ExpressionTokens.{head_tokens, sep_tokens, expr_tokens, enums_tokens, gen_tokens, infix_tokens, prim_tokens, args_tokens, bstats_tokens, bstat_tokens, def_tokens}
 use Rattle.source_grammar.specs.ExpressionTrees.{bstat_built}
 use Rattle.source_grammar.specs.Lexemes.{Place, Lexeme, Arrow, arrow_token, Id}
@@ -19,79 +19,47 @@ use Rattle.source_grammar.specs.Types.{WrittenType, FunOfNamed, FunOfNone, FunOf
 
 -- ---- what may still follow an expression at its right end
 
--- an `if` without `else`
+-- the heads that could take more than they have
+pub data OpenHead : Type 0 where
+  -- an `if` without `else`
+  IfOpen : OpenHead
+  -- a `try` without `catch` and `finally`, and one with cases and without `finally`
+  TryOpen : OpenHead
+  CatchOpen : OpenHead
+  -- a `return` without operand
+  ReturnOpen : OpenHead
+
+-- the open heads of an expression that end where it ends, the outermost first
+abbrev pub open_heads : Expr → List OpenHead
+open_heads (IfThen word opening test closing body) = IfOpen ∷ open_heads body
+open_heads (TryAlone word body) = TryOpen ∷ open_heads body
+open_heads (TryCatch word body catch opening cases closing) = CatchOpen ∷ []
+open_heads (ReturnAlone word) = ReturnOpen ∷ []
+open_heads (Lambda head arrow body) = open_heads body
+open_heads (IfElse word opening test closing body semi other rest) = open_heads rest
+open_heads (WhileDo word opening test closing body) = open_heads body
+open_heads (TryFinally word body last end) = open_heads end
+open_heads (TryCatchFinally word body catch opening cases closing last end) = open_heads end
+open_heads (ForRound word opening enums closing yield body) = open_heads body
+open_heads (ForCurly word opening enums closing yield body) = open_heads body
+open_heads (ThrowOf word operand) = open_heads operand
+open_heads (ReturnOf word operand) = open_heads operand
+open_heads (AssignName id sign right) = open_heads right
+open_heads (AssignSelect prim point id sign right) = open_heads right
+open_heads (AssignApply prim args sign right) = open_heads right
+open_heads _ = []
+
 abbrev pub takes_else : Expr → Bool
-takes_else (Lambda head arrow body) = takes_else body
-takes_else (IfThen word opening test closing body) = true
-takes_else (IfElse word opening test closing body semi other rest) = takes_else rest
-takes_else (WhileDo word opening test closing body) = takes_else body
-takes_else (TryAlone word body) = takes_else body
-takes_else (TryFinally word body last end) = takes_else end
-takes_else (TryCatchFinally word body catch opening cases closing last end) = takes_else end
-takes_else (ForRound word opening enums closing yield body) = takes_else body
-takes_else (ForCurly word opening enums closing yield body) = takes_else body
-takes_else (ThrowOf word operand) = takes_else operand
-takes_else (ReturnOf word operand) = takes_else operand
-takes_else (AssignName id sign right) = takes_else right
-takes_else (AssignSelect prim point id sign right) = takes_else right
-takes_else (AssignApply prim args sign right) = takes_else right
-takes_else _ = false
+takes_else expr = list_any (elim [ IfOpen ↦ true | _ ↦ false ]) (open_heads expr)
 
--- a `try` without `catch` and `finally`
 abbrev pub takes_catch : Expr → Bool
-takes_catch (Lambda head arrow body) = takes_catch body
-takes_catch (IfThen word opening test closing body) = takes_catch body
-takes_catch (IfElse word opening test closing body semi other rest) = takes_catch rest
-takes_catch (WhileDo word opening test closing body) = takes_catch body
-takes_catch (TryAlone word body) = true
-takes_catch (TryFinally word body last end) = takes_catch end
-takes_catch (TryCatchFinally word body catch opening cases closing last end) = takes_catch end
-takes_catch (ForRound word opening enums closing yield body) = takes_catch body
-takes_catch (ForCurly word opening enums closing yield body) = takes_catch body
-takes_catch (ThrowOf word operand) = takes_catch operand
-takes_catch (ReturnOf word operand) = takes_catch operand
-takes_catch (AssignName id sign right) = takes_catch right
-takes_catch (AssignSelect prim point id sign right) = takes_catch right
-takes_catch (AssignApply prim args sign right) = takes_catch right
-takes_catch _ = false
+takes_catch expr = list_any (elim [ TryOpen ↦ true | _ ↦ false ]) (open_heads expr)
 
--- a `try` without `finally`
 abbrev pub takes_finally : Expr → Bool
-takes_finally (Lambda head arrow body) = takes_finally body
-takes_finally (IfThen word opening test closing body) = takes_finally body
-takes_finally (IfElse word opening test closing body semi other rest) = takes_finally rest
-takes_finally (WhileDo word opening test closing body) = takes_finally body
-takes_finally (TryAlone word body) = true
-takes_finally (TryCatch word body catch opening cases closing) = true
-takes_finally (TryFinally word body last end) = takes_finally end
-takes_finally (TryCatchFinally word body catch opening cases closing last end) = takes_finally end
-takes_finally (ForRound word opening enums closing yield body) = takes_finally body
-takes_finally (ForCurly word opening enums closing yield body) = takes_finally body
-takes_finally (ThrowOf word operand) = takes_finally operand
-takes_finally (ReturnOf word operand) = takes_finally operand
-takes_finally (AssignName id sign right) = takes_finally right
-takes_finally (AssignSelect prim point id sign right) = takes_finally right
-takes_finally (AssignApply prim args sign right) = takes_finally right
-takes_finally _ = false
+takes_finally expr = list_any (elim [ TryOpen ↦ true | CatchOpen ↦ true | _ ↦ false ]) (open_heads expr)
 
--- a `return` without operand
 abbrev pub takes_operand : Expr → Bool
-takes_operand (Lambda head arrow body) = takes_operand body
-takes_operand (IfThen word opening test closing body) = takes_operand body
-takes_operand (IfElse word opening test closing body semi other rest) = takes_operand rest
-takes_operand (WhileDo word opening test closing body) = takes_operand body
-takes_operand (TryAlone word body) = takes_operand body
-takes_operand (TryFinally word body last end) = takes_operand end
-takes_operand (TryCatchFinally word body catch opening cases closing last end) = takes_operand end
-takes_operand (ForRound word opening enums closing yield body) = takes_operand body
-takes_operand (ForCurly word opening enums closing yield body) = takes_operand body
-takes_operand (ThrowOf word operand) = takes_operand operand
-takes_operand (ReturnAlone word) = true
-takes_operand (ReturnOf word operand) = takes_operand operand
-takes_operand (AssignName id sign right) = takes_operand right
-takes_operand (AssignSelect prim point id sign right) = takes_operand right
-takes_operand (AssignApply prim args sign right) = takes_operand right
-takes_operand _ = false
+takes_operand expr = list_any (elim [ ReturnOpen ↦ true | _ ↦ false ]) (open_heads expr)
 
 -- `while` or `if` in the same line, directly behind an expression, would begin the operand of a `return` there
 abbrev pub is_apart : Sep → Place → Bool
@@ -280,25 +248,19 @@ module _ (rule : Rule) where
         ProperPrim prim × IsJoinedPart (prim_tokens prim) × (is_minus_of_number sign (prim_tokens prim) ≡ false)
 
     pub ProperPrim : Prim → Type 0
-    ProperPrim (LiteralPrim literal) = Unit {0}
     ProperPrim (MinusPrim sign number) = IsJoined number.place
-    ProperPrim (Placeholder place) = Unit {0}
-    ProperPrim (ThisPrim word) = Unit {0}
-    ProperPrim (SuperPrim word point id) = Unit {0}
-    ProperPrim (NamePrim id) = Unit {0}
-    ProperPrim (UnitPrim opening closing) = Unit {0}
     ProperPrim (ExprInParentheses opening expr closing) = ProperExpr expr
     ProperPrim (PairPrim opening a comma_1 b closing) = ProperExpr a × ProperExpr b
     ProperPrim (TriplePrim opening a comma_1 b comma_2 c closing) = ProperExpr a × ProperExpr b × ProperExpr c
     ProperPrim (BlockPrim opening block closing) = ProperBlock WithinExpr block
     ProperPrim (CasesPrim opening cases closing) = ProperCases cases
-    ProperPrim (NewOf word type) = Unit {0}
     ProperPrim (NewWith word type args) = ProperArgs args
     ProperPrim (SelectPrim prim point id) = ProperPrim prim × (extends_type prim ≡ false)
     ProperPrim (SelectHole prim point) = ProperPrim prim
     ProperPrim (TypeApplyPrim prim opening types closing) = ProperPrim prim × (extends_type prim ≡ false)
     ProperPrim (ApplyPrim prim args) = ProperPrim prim × (is_called prim args ≡ true) × ProperArgs args
     ProperPrim (EtaPrim prim place) = ProperPrim prim × (is_sign_alone prim ≡ false) × IsJoined place
+    ProperPrim _ = Unit {0}
 
     pub ProperArgs : Args → Type 0
     ProperArgs (NoArgs opening closing) = IsJoined opening

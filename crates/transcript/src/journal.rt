@@ -1,6 +1,6 @@
 //! The events of a journal.
 
-ghost use Rattle.std.specs.Prelude.{◌≡◌, ◌++◌, OnOk};
+ghost use Rattle.std.specs.Prelude.{◌≡◌, ◌++◌, OnOk, IfOk};
 ghost use Rattle.transcript.specs.Printed as spec;
 
 use crate::calls::push_call;
@@ -80,6 +80,16 @@ fn push_checked(
     text.push_number(alloc, found.len() as u64)?;
     text.push_str("\n")?;
     push_problems(alloc, text, found)
+}
+
+/// Prints a check as its event is printed, without a journal index: `checked`, the file and the number of its problems, and
+/// a line for each.
+pub fn print_checked(alloc: Global, file: &Text, found: &[Problem]) -> Result<Text, NoMemory>
+    ensures { IfOk result (λ text. text ≡ spec.checked_text file.now found.now) }
+{
+    let mut text = Text::new(alloc, "")?;
+    push_checked(alloc, &mut text, file, found)?;
+    Ok(text)
 }
 
 fn push_event(

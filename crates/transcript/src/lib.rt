@@ -16,6 +16,7 @@ mod outcomes;
 use ask_history::{Answer, Journal, Script};
 use entries::push_clients;
 use fields::push_count;
+pub use journal::print_checked;
 use journal::push_events;
 use outcomes::Outcomes;
 use pc_terms::{NoMemory, Problem, Row, Text};

@@ -10,3 +10,4 @@ mod usage;
 
 pub use limits::{CancelSeen, Limits, PostRefused, Settling};
 pub use queue::Queue;
+pub use usage::Usage;

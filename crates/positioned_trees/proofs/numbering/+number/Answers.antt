@@ -1,6 +1,8 @@
 use Rattle.std.proofs.Common.{◌≡◌, ◌+◌, Some, sym, subst, ap, ◌∙◌, refl, arith, length, get_or}
-use Rattle.positioned_trees.specs.Located.{Stands}
+use Rattle.std.specs.List.{All}
+use Rattle.positioned_trees.specs.Located.{KeepsKidsApart, Stands}
 use Rattle.positioned_trees.specs.Trees.{AreInPreOrder, all_trees, height, numbered}
+use Rattle.positioned_trees.proofs.Apart.{stays_apart}
 use Rattle.positioned_trees.proofs.PreOrder.{follows, keeps_places}
 use Rattle.positioned_trees.specs.declared.trees.Tree.TheViews.{out-Tree, out-roll-Tree}
 use Rattle.positioned_trees.proofs.Numbers.{numbered-out, followed, renumbered, same_at, step, kid_fits, ended, put_back, renumbered_is, too_high, not_too_high, high-from_none, low-from_some}
@@ -65,3 +67,7 @@ returns-clause-count t c =
 
 pub returns-clause-places : goal.returns-clause-places
 returns-clause-places t c room stands = subst (Stands room) (sym (returns-clause-tree t c)) (keeps_places c.args.tree.now c.args.start room stands)
+
+pub returns-clause-apart : goal.returns-clause-apart
+returns-clause-apart t c each =
+    subst (λ tree. All KeepsKidsApart (all_trees tree)) (sym (returns-clause-tree t c)) (stays_apart c.args.tree.now c.args.start each)

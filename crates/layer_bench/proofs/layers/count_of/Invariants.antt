@@ -1,6 +1,0 @@
-use Rattle.std.proofs.Common.{◌≡◌, length}
-use Rattle.scan_tokens.specs.Scanned.{scanned}
-use Rattle.layer_bench.proofs.layers.count_of.Given as goal
-
-abbrev pub invariant-loop : goal.invariant-loop
-invariant-loop l = l.count ≡ length (scanned l.text).tokens

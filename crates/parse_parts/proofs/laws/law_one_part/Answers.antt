@@ -1,0 +1,5 @@
+use Rattle.parse_parts.proofs.Unique.{one-part}
+use Rattle.parse_parts.proofs.laws.law_one_part.Goals as goal
+
+pub returns : goal.returns
+returns c = one-part

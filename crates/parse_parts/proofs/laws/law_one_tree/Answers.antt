@@ -1,0 +1,5 @@
+use Rattle.parse_parts.proofs.Unique.{one-tree}
+use Rattle.parse_parts.proofs.laws.law_one_tree.Goals as goal
+
+pub returns : goal.returns
+returns c = one-tree

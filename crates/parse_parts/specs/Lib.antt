@@ -1,0 +1,7 @@
+pub mod Built
+pub mod Parting
+pub mod Reading
+pub mod Standing
+pub mod Steps
+pub mod Symbols
+pub mod Words

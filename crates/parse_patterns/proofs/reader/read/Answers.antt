@@ -1,0 +1,28 @@
+use Rattle.std.proofs.Common.{ap, sym, ◌∙◌}
+use Rattle.reading_machines.specs.Machines.{noted}
+use Rattle.parse_patterns.proofs.Loops.{seen, stops, goes_on, noted-now}
+use Rattle.parse_patterns.proofs.reader.read.Goals as goal
+use Rattle.parse_patterns.proofs.reader.read.Goals.{then-is_pattern, else-is_pattern}
+
+pub returns-then-not-admits : goal.returns-then-not-admits
+returns-then-not-admits c =
+    stops c.args.text.now c.args.tokens.now c.loop-token.token-index c.loop-token.reached c.loop-token.best c.if-is_pattern.best c.loop-token.state
+    _ c.word_in-word.result.now c.loop-token.invariant
+    (seen c.args.text.now c.args.tokens.now c.loop-token.token-index _ c.word_in-word.result.now c.loop-token-test.true c.word_in-word.ensures)
+    (elim c.if-is_pattern.branch [
+      | then-is_pattern w ↦ noted-now c.is_pattern.result _ _ _ _ c.is_pattern.ensures (w.best-is ∙ ap (λ b. noted b c.loop-token.reached c.loop-token.best) (sym w.if-is_pattern.true))
+      | else-is_pattern w ↦ noted-now c.is_pattern.result _ _ _ _ c.is_pattern.ensures (w.best-is ∙ ap (λ b. noted b c.loop-token.reached c.loop-token.best) (sym w.if-is_pattern.false))
+    ])
+    (sym c.admits.ensures ∙ c.if-not-admits.true)
+
+pub loop-token-preserved : goal.loop-token-preserved
+loop-token-preserved c =
+    goes_on c.args.text.now c.args.tokens.now c.loop-token.token-index c.loop-token.reached c.loop-token.best c.if-is_pattern.best c.loop-token.state c.in_ok-state.state
+    _ c.word_in-word.result.now c.loop-token.invariant
+    (seen c.args.text.now c.args.tokens.now c.loop-token.token-index _ c.word_in-word.result.now c.loop-token-test.true c.word_in-word.ensures)
+    (elim c.if-is_pattern.branch [
+      | then-is_pattern w ↦ noted-now c.is_pattern.result _ _ _ _ c.is_pattern.ensures (w.best-is ∙ ap (λ b. noted b c.loop-token.reached c.loop-token.best) (sym w.if-is_pattern.true))
+      | else-is_pattern w ↦ noted-now c.is_pattern.result _ _ _ _ c.is_pattern.ensures (w.best-is ∙ ap (λ b. noted b c.loop-token.reached c.loop-token.best) (sym w.if-is_pattern.false))
+    ])
+    (sym c.admits.ensures ∙ c.if-not-admits.false)
+    c.in_ok-state.ensures

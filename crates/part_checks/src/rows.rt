@@ -1,0 +1,130 @@
+//! How rows say where a part stands in a text, and what it is.
+
+ghost use Rattle.pc_terms.specs.Bytes.{max_source_bytes};
+ghost use Rattle.scan_tokens.specs.Scanned.{scanned};
+ghost use Rattle.std.specs.Prelude.{◌≡◌, ◌≤◌, length, IfOk};
+
+use parse_parts::Part;
+use pc_terms::{MAX_SOURCE_BYTES, NoMemory};
+use positioned_trees::{Detail, Tree};
+use scan_tokens::{Tokens, scan};
+use std::alloc::{AllocError, Global};
+use std::process::Abort;
+use std::test::Fail;
+
+/// A text with two marks ▮, and what is read at the first mark. The second mark stands behind the part, or before
+/// the first token that no part admits. A tree is written as its number, its kind, its label, the span of the label
+/// where that is not the tree's, its span, and its kids between brackets.
+pub type Row = (&'static str, &'static str);
+
+/// The tokens of a text, and the numbers of those behind the two marks.
+#[derive(Drop)]
+pub struct Marked {
+    pub tokens: Tokens,
+    pub at: u32,
+    pub behind: u32,
+}
+
+fn tokens_before(tokens: &Tokens, offset: usize) -> u32 {
+    let mut count: u32 = 0;
+    for token in tokens.tokens.as_slice() {
+        if (token.span.start as usize) < offset {
+            count = count.saturating_add(1);
+        }
+    }
+    count
+}
+
+#[tactic(auto, unfolding(scan_tokens::specs::Scanned::scanned))]
+pub fn tokens_of(alloc: Global, text: &str) -> Result<Tokens, NoMemory>
+    requires { length text.now ≤ max_source_bytes }
+    ensures scanned { IfOk result (λ tokens. tokens ≡ scanned tokens.text) }
+    ensures short { IfOk result (λ tokens. length tokens.text ≤ max_source_bytes) }
+{
+    scan(alloc, text)
+}
+
+pub fn cut_at_marks(rt: &(impl Abort + AllocGlobal), text: &str) -> Result<Marked, Fail>
+    ensures scanned { IfOk result (λ m. m.tokens ≡ scanned m.tokens.text) }
+    ensures short { IfOk result (λ m. length m.tokens.text ≤ max_source_bytes) }
+    ensures within { IfOk result (λ m. m.at ≤ length m.tokens.tokens) }
+{
+    let (front, rest) = text.split_once('▮').expect(rt, "a first mark");
+    let (part, back) = rest.split_once('▮').expect(rt, "a second mark");
+    let plain = format!(in rt.alloc(); "{front}{part}{back}")?;
+    assert!(rt; plain.len() <= MAX_SOURCE_BYTES);
+    let tokens = tokens_of(rt.alloc(), plain.as_str())?;
+    let at = tokens_before(&tokens, front.len());
+    let behind = tokens_before(&tokens, front.len().saturating_add(part.len()));
+    assert!(rt; at as usize <= tokens.tokens.len());
+    Ok(Marked { tokens, at, behind })
+}
+
+fn push_label(shown: &mut String, tree: &Tree) -> Result<(), AllocError> {
+    let (label, place) = (tree.label.as_str(), tree.label_span);
+    if !label.is_empty() {
+        write!(shown, " {label}")?;
+    }
+    if place != tree.span {
+        let (start, end) = (place.start, place.end);
+        write!(shown, "@{start}-{end}")?;
+    }
+    Ok(())
+}
+
+// A tree as far as it is no higher than this.
+fn push_tree(shown: &mut String, tree: &Tree, room: u32) -> Result<(), AllocError> {
+    if room == 0 {
+        shown.push_str("..")?;
+        return Ok(());
+    }
+    let (id, kind) = (tree.id, tree.kind);
+    write!(shown, "{id} {kind:?}")?;
+    push_label(shown, tree)?;
+    let (start, end) = (tree.span.start, tree.span.end);
+    write!(shown, " {start}-{end}")?;
+    if !tree.opaque || !matches!(tree.detail, Detail::Plain) {
+        shown.push_str(" not plain")?;
+    }
+    let mut first = true;
+    for kid in tree.kids.as_slice() {
+        shown.push_str(if first { " [" } else { ", " })?;
+        push_tree(shown, kid, room - 1)?;
+        first = false;
+    }
+    if !first {
+        shown.push_str("]")?;
+    }
+    Ok(())
+}
+
+// What a part is, without its end.
+fn shown(alloc: Global, part: &Part) -> Result<String, AllocError> {
+    let mut shown = String::new(alloc);
+    match part {
+        Part::Read(tree, _) => push_tree(&mut shown, tree, 16)?,
+        Part::NotHere(_) => shown.push_str("not here")?,
+        Part::TooHigh(_) => shown.push_str("too high")?,
+    }
+    Ok(shown)
+}
+
+/// Whether a part is the one of the row, and ends at the second mark.
+pub fn agree(
+    rt: &(impl Abort + AllocGlobal),
+    row: &Row,
+    behind: u32,
+    part: &Part,
+) -> Result<(), Fail> {
+    let (text, expected) = *row;
+    assert_eq!(rt;
+        shown(rt.alloc(), part)?.as_str(),
+        expected,
+        "at the first mark of {text:?}"
+    );
+    let end = match part {
+        Part::Read(_, end) | Part::NotHere(end) | Part::TooHigh(end) => *end,
+    };
+    assert_eq!(rt; end, behind, "the token at the second mark of {text:?}");
+    Ok(())
+}
