@@ -1,0 +1,5 @@
+//! Whole schedules, each played with several turn numbers, on an engine whose asks take several turns.
+#![tactic(auto)]
+
+#[cfg(test)]
+mod stepper;
