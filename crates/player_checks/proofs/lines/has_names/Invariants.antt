@@ -1,0 +1,7 @@
+use Rattle.std.proofs.Common.{◌≡◌, true, take}
+use Rattle.std.specs.List.{list_all}
+use Rattle.ask_history.specs.Engine.{is_file_name}
+use Rattle.player_checks.proofs.lines.has_names.Given as goal
+
+abbrev pub invariant-loop-name : goal.invariant-loop-name
+invariant-loop-name l = list_all is_file_name (take l.name-index l.names) ≡ true
