@@ -1,7 +1,7 @@
 -- The classes that one character alone makes.
 use Rattle.std.proofs.Common.{◌≡◌, ℕ, Bool, true, false, ◌||◌, ◌==◌, cond, refl}
 use Rattle.ucd_category.specs.declared.GeneralCategory.{GeneralCategory}
-use Rattle.ucd_category.specs.declared.GeneralCategory.TheVariants.{LowercaseLetter, UppercaseLetter, TitlecaseLetter, OtherLetter, LetterNumber, MathSymbol, OtherSymbol}
+use Rattle.ucd_category.specs.declared.GeneralCategory.TheVariants.{MathSymbol, OtherSymbol}
 use Rattle.unicode.specs.GeneralCategory.{general_category}
 use Rattle.scan_tokens.specs.declared.characters.Class.{Class}
 use Rattle.scan_tokens.specs.declared.characters.Class.TheVariants as class
@@ -13,11 +13,6 @@ abbrev Marks : ℕ → Class → Type 0
 Marks c k = (k ≡ class.Apostrophe → c ≡ 39) × (k ≡ class.Quote → c ≡ 34) × (k ≡ class.Backquote → c ≡ 96)
 
 in_category : (c : ℕ) (g : GeneralCategory) → Marks c (class_in g)
-in_category c LowercaseLetter = (λ e. cc, λ e. cc, λ e. cc)
-in_category c UppercaseLetter = (λ e. cc, λ e. cc, λ e. cc)
-in_category c TitlecaseLetter = (λ e. cc, λ e. cc, λ e. cc)
-in_category c OtherLetter = (λ e. cc, λ e. cc, λ e. cc)
-in_category c LetterNumber = (λ e. cc, λ e. cc, λ e. cc)
 in_category c MathSymbol = (λ e. cc, λ e. cc, λ e. cc)
 in_category c OtherSymbol = (λ e. cc, λ e. cc, λ e. cc)
 in_category c _ = (λ e. cc, λ e. cc, λ e. cc)

@@ -5,7 +5,9 @@ use Rattle.std.specs.Char.{is_ascii_alphanumeric}
 use Rattle.pc_terms.specs.Bytes.{tab, line_feed, form_feed, carriage_return, space, quote, dollar, apostrophe, digit_zero, digit_nine, underscore, backquote, letter_u}
 use Rattle.unicode.specs.GeneralCategory.{general_category}
 use Rattle.ucd_category.specs.declared.GeneralCategory.{GeneralCategory}
-use Rattle.ucd_category.specs.declared.GeneralCategory.TheVariants.{LowercaseLetter, UppercaseLetter, TitlecaseLetter, OtherLetter, LetterNumber, MathSymbol, OtherSymbol}
+use Rattle.ucd_category.specs.declared.GeneralCategory.TheVariants.{OtherLetter, LetterNumber, MathSymbol, OtherSymbol}
+use Rattle.ucd_category.specs.declared.GeneralCategoryGroup.TheVariants.{CasedLetter}
+use Rattle.ucd_category.specs.GeneralCategoryGroup.{in_group}
 use Rattle.scan_tokens.specs.declared.characters.Class.{Class}
 use Rattle.scan_tokens.specs.declared.characters.Class.TheVariants.{Space, Letter, Digit, Operator, Delimiter, Apostrophe, Quote, Backquote, Other}
 use Rattle.scan_tokens.specs.declared.characters.Run.{Run}
@@ -15,15 +17,16 @@ use Rattle.scan_tokens.specs.declared.characters.Run.TheVariants.{Spaces, Letter
 abbrev pub Chars : Type 0
 Chars = List ℕ
 
+-- the categories of letters: those with a case, and two more
+abbrev pub is_letter : GeneralCategory → Bool
+is_letter OtherLetter = true
+is_letter LetterNumber = true
+is_letter category = in_group CasedLetter category
+
 abbrev pub class_in : GeneralCategory → Class
-class_in LowercaseLetter = Letter
-class_in UppercaseLetter = Letter
-class_in TitlecaseLetter = Letter
-class_in OtherLetter = Letter
-class_in LetterNumber = Letter
 class_in MathSymbol = Operator
 class_in OtherSymbol = Operator
-class_in _ = Other
+class_in category = if is_letter category then Letter else Other
 
 abbrev pub is_space : ℕ → Bool
 is_space c = c == space || c == tab || c == carriage_return || c == line_feed || c == form_feed

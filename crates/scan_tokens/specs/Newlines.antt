@@ -1,5 +1,5 @@
 -- Before which tokens a newline counts (SLS 1.2).
-use Rattle.std.specs.Prelude.{ℕ, ◌-◌, Bool, true, false, ◌||◌, ◌&&◌, ◌==◌, if◌then◌else◌, List, [], ◌∷◌, take, drop, slice_index}
+use Rattle.std.specs.Prelude.{ℕ, ◌-◌, Bool, true, false, not, ◌||◌, ◌&&◌, ◌==◌, if◌then◌else◌, List, [], ◌∷◌, take, drop, slice_index}
 use Rattle.pc_terms.specs.Bytes.{line_feed, open_round, close_round, open_square, close_square, open_curly, close_curly}
 use Rattle.scan_tokens.specs.declared.tokens.Newline.{Newline}
 use Rattle.scan_tokens.specs.declared.tokens.Newline.TheVariants.{No, One, Blank}
@@ -51,14 +51,22 @@ can_end Ends = true
 can_end (Closes b) = true
 can_end _ = false
 
+-- [ and each closing bracket
+abbrev pub stands_within : Role → Bool
+stands_within (Opens Square) = true
+stands_within (Closes b) = true
+stands_within _ = false
+
+-- an arrow, or a word or sign that goes on with what stands before it
+abbrev pub goes_on : Role → Bool
+goes_on Arrow = true
+goes_on Continues = true
+goes_on _ = false
+
 -- `template` says that `class` or `object` follows
 abbrev pub can_begin : Role → Bool → Bool
-can_begin (Opens Square) template = false
-can_begin (Closes b) template = false
 can_begin Case template = template
-can_begin Arrow template = false
-can_begin Continues template = false
-can_begin _ template = true
+can_begin role template = not (stands_within role || goes_on role)
 
 abbrev pub is_template : Role → Bool
 is_template Template = true
