@@ -1,6 +1,7 @@
 -- What the calls of an engine do.
-use Rattle.std.specs.Prelude.{◌≡◌, ◌<◌, ◌≤◌, ⊤, ℕ, Bool, true, false, not, ◌&&◌, ◌||◌, ◌==◌, if◌then◌else◌, List, [], ◌∷◌, ◌++◌, length, filter, All, Option, Some, None}
+use Rattle.std.specs.Prelude.{◌≡◌, ◌<◌, ◌≤◌, ⊤, ℕ, Bool, true, false, not, ◌&&◌, ◌||◌, ◌==◌, if◌then◌else◌, List, [], ◌∷◌, ◌++◌, length, filter, All, Option, Some, None, is_some, codes}
 use Rattle.std.specs.List.{list_all}
+use Rattle.std.specs.Str.{bytes_eq}
 use Rattle.pc_terms.specs.Bytes.{less_sign, max_source_bytes}
 use Rattle.pc_terms.specs.declared.problems.Problem.{Problem}
 use Rattle.ask_history.specs.Sources.{Bytes, Sources, is_mutation, mutated, unchecked, some_of}
@@ -43,15 +44,24 @@ abbrev pub is_file_name : Bytes → Bool
 is_file_name [] = false
 is_file_name (b ∷ bs) = not (b == less_sign)
 
--- The file that an ask is about.
+-- What an ask asks, by its word in a script, the file that it is about, and the offset in it.
+pub record Asked : Type 0 where
+  pub word : Bytes
+  pub file : Bytes
+  pub offset : Option ℕ
+
+-- a mutation asks nothing
+abbrev pub asked : Call → Asked
+asked (TypeAt file offset) = record { word = codes "type"; file = file; offset = Some offset }
+asked (MembersAt file offset) = record { word = codes "members"; file = file; offset = Some offset }
+asked (ScopeAt file offset) = record { word = codes "scope"; file = file; offset = Some offset }
+asked (LinkAt file offset) = record { word = codes "link"; file = file; offset = Some offset }
+asked (Structure file) = record { word = codes "structure"; file = file; offset = None }
+asked (LoadedTyped file) = record { word = codes "typed"; file = file; offset = None }
+asked _ = record { word = []; file = []; offset = None }
+
 abbrev pub asked_file : Call → Bytes
-asked_file (TypeAt file offset) = file
-asked_file (MembersAt file offset) = file
-asked_file (ScopeAt file offset) = file
-asked_file (LinkAt file offset) = file
-asked_file (Structure file) = file
-asked_file (LoadedTyped file) = file
-asked_file _ = []
+asked_file call = (asked call).file
 
 -- every file that a call names has a name that a file may have
 abbrev pub has_file_names : Call → Bool
@@ -141,23 +151,20 @@ stopped_state old = record old { asks = [] }
 
 -- ---- answers
 
-abbrev pub has_offset : Call → Bool
-has_offset (TypeAt file offset) = true
-has_offset (MembersAt file offset) = true
-has_offset (ScopeAt file offset) = true
-has_offset (LinkAt file offset) = true
-has_offset _ = false
+-- the word of the asks that find such an answer
+abbrev pub finding_word : Answer → Bytes
+finding_word (answer.Tree tree) = codes "type"
+finding_word (answer.Members members) = codes "members"
+finding_word answer.NoMembers = codes "members"
+finding_word (answer.Scope names) = codes "scope"
+finding_word (answer.Link where_ span sym) = codes "link"
+finding_word answer.NoLink = codes "link"
+finding_word (answer.Outline definitions) = codes "structure"
+finding_word (answer.Loaded definitions problems) = codes "typed"
+finding_word _ = codes "nothing"
 
 -- The answers that an engine may find for an ask whose file is loaded.
 abbrev pub can_find : Call → Answer → Bool
-can_find (TypeAt file offset) (answer.Tree tree) = true
-can_find (MembersAt file offset) (answer.Members members) = true
-can_find (MembersAt file offset) answer.NoMembers = true
-can_find (ScopeAt file offset) (answer.Scope names) = true
-can_find (LinkAt file offset) (answer.Link where_ span sym) = true
-can_find (LinkAt file offset) answer.NoLink = true
-can_find (Structure file) (answer.Outline definitions) = true
-can_find (LoadedTyped file) (answer.Loaded definitions problems) = true
-can_find call answer.NoTree = has_offset call
+can_find call answer.NoTree = is_some (asked call).offset
 can_find call answer.Unread = true
-can_find call found = false
+can_find call found = bytes_eq (asked call).word (finding_word found)

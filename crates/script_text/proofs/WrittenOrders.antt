@@ -209,13 +209,13 @@ offset_is make text says written words made h =
       written = written found.of.0 found.of.1 ∙ both_true (is_name found.of.0) (is_number found.of.1) is.name is.offset;
     })
 
-file_is : (make : Bytes → Call) (text : Bytes) → ((name : Bytes) → call_words (make name) ≡ text ∷ name ∷ []) → ((name : Bytes) → is_written_call (make name) ≡ is_name name)
+file_is : (make : Bytes → Call) (text : Bytes) → ((name : Bytes) → call_words (make name) ≡ text ∷ name ∷ []) → ((name : Bytes) → is_written_call (make name) ≡ (is_name name && true))
     → (words : List Bytes) (made : Order) → option_map (λ name. order.Call (make name)) (one_name words) ≡ Some made → IsOrder (text ∷ words) made
 file_is make text says written words made h =
     let found = made_of (λ name. order.Call (make name)) (one_name words) made h in
     let is = name_is words found.of found.here in
     subst (λ (o : Order). IsOrder (text ∷ words) o) (sym found.is)
-    (record { same = ap (λ w. text ∷ w) is.0 ∙ sym (says found.of); written = written found.of ∙ is.1 })
+    (record { same = ap (λ w. text ∷ w) is.0 ∙ sym (says found.of); written = written found.of ∙ both_true (is_name found.of) true is.1 refl })
 
 numbered_is : (make : ℕ → Order) (text : Bytes) → ((n : ℕ) → order_words (make n) ≡ text ∷ decimal n ∷ []) → ((n : ℕ) → is_written (make n) ≡ is_number n)
     → (words : List Bytes) (made : Order) → option_map make (one_number words) ≡ Some made → IsOrder (text ∷ words) made
@@ -273,8 +273,8 @@ order_from-words (order.Call (TypeAt name n)) h = ap (λ o. option_map (λ found
 order_from-words (order.Call (MembersAt name n)) h = ap (λ o. option_map (λ found. order.Call (MembersAt found.0 found.1)) o) (offset_read name n h)
 order_from-words (order.Call (ScopeAt name n)) h = ap (λ o. option_map (λ found. order.Call (ScopeAt found.0 found.1)) o) (offset_read name n h)
 order_from-words (order.Call (LinkAt name n)) h = ap (λ o. option_map (λ found. order.Call (LinkAt found.0 found.1)) o) (offset_read name n h)
-order_from-words (order.Call (Structure name)) h = ap (λ o. option_map (λ found. order.Call (Structure found)) o) (name_read name h)
-order_from-words (order.Call (LoadedTyped name)) h = ap (λ o. option_map (λ found. order.Call (LoadedTyped found)) o) (name_read name h)
+order_from-words (order.Call (Structure name)) h = ap (λ o. option_map (λ found. order.Call (Structure found)) o) (name_read name (left_of_both (is_name name) true h))
+order_from-words (order.Call (LoadedTyped name)) h = ap (λ o. option_map (λ found. order.Call (LoadedTyped found)) o) (name_read name (left_of_both (is_name name) true h))
 order_from-words (order.Cancel k) h = ap (λ o. option_map order.Cancel o) (number_of-decimal k h)
 order_from-words order.Close h = refl
 order_from-words (order.Wait k) h = ap (λ o. option_map order.Wait o) (number_of-decimal k h)

@@ -1,9 +1,10 @@
 -- How a line of a script is written. Numbers are written in one way, and one space stands between two words.
-use Rattle.std.specs.Prelude.{◌*◌, List, [], ◌∷◌, ◌++◌, codes, replicate, Option, Some, None}
+use Rattle.std.specs.Prelude.{ℕ, ◌*◌, List, [], ◌∷◌, ◌++◌, codes, replicate, Option, Some, None}
 use Rattle.std.specs.List.{join_with_byte}
 use Rattle.std.specs.Fmt.{decimal}
+use Rattle.ask_history.specs.Engine.{asked}
 use Rattle.ask_history.specs.declared.calls.Call.{Call}
-use Rattle.ask_history.specs.declared.calls.Call.TheVariants.{Reload, Remove, TypeAt, MembersAt, ScopeAt, LinkAt, Structure, LoadedTyped}
+use Rattle.ask_history.specs.declared.calls.Call.TheVariants.{Reload, Remove}
 use Rattle.ask_history.specs.declared.script.Order.{Order}
 use Rattle.ask_history.specs.declared.script.Order.TheVariants as order
 use Rattle.ask_history.specs.declared.script.Line.{Line}
@@ -20,16 +21,15 @@ abbrev pub pair_words : List (Bytes × Bytes) → List Bytes
 pair_words [] = []
 pair_words (entry ∷ entries) = entry.0 ∷ entry.1 ∷ pair_words entries
 
+abbrev pub offset_words : Option ℕ → List Bytes
+offset_words None = []
+offset_words (Some offset) = decimal offset ∷ []
+
 -- The text of a reloaded file stands for its path here.
 abbrev pub call_words : Call → List Bytes
 call_words (Reload entries) = codes "reload" ∷ pair_words entries
 call_words (Remove names) = codes "remove" ∷ names
-call_words (TypeAt name offset) = codes "type" ∷ name ∷ decimal offset ∷ []
-call_words (MembersAt name offset) = codes "members" ∷ name ∷ decimal offset ∷ []
-call_words (ScopeAt name offset) = codes "scope" ∷ name ∷ decimal offset ∷ []
-call_words (LinkAt name offset) = codes "link" ∷ name ∷ decimal offset ∷ []
-call_words (Structure name) = codes "structure" ∷ name ∷ []
-call_words (LoadedTyped name) = codes "typed" ∷ name ∷ []
+call_words ask = (asked ask).word ∷ (asked ask).file ∷ offset_words (asked ask).offset
 
 abbrev pub order_words : Order → List Bytes
 order_words (order.Call call) = call_words call

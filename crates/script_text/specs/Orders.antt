@@ -1,16 +1,7 @@
 -- What the parts of reading an order do.
 use Rattle.std.specs.Prelude.{◌≡◌, Bool, true, false, List, [], ◌∷◌, ◌++◌}
-use Rattle.script_text.specs.declared.words.Word.{Word}
-use Rattle.script_text.specs.declared.words.Word.TheVariants as word
 use Rattle.script_text.specs.Words.{Bytes}
 use Rattle.script_text.specs.Standing.{is_next_pair}
-
-abbrev pub is_ask_at : Word → Bool
-is_ask_at word.Type = true
-is_ask_at word.Members = true
-is_ask_at word.Scope = true
-is_ask_at word.Link = true
-is_ask_at _ = false
 
 -- the name and its pair are taken just where they are the next pair
 abbrev pub TakesPair : List Bytes → List (Bytes × Bytes) → Bytes → Bytes → List Bytes → List (Bytes × Bytes) → Bool → Type 0

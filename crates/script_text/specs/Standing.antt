@@ -3,9 +3,10 @@ use Rattle.std.specs.Prelude.{ℕ, ◌-◌, Bool, true, false, not, ◌&&◌, �
 use Rattle.std.specs.Option.{option_map}
 use Rattle.std.specs.List.{list_any, list_all, filter_map}
 use Rattle.std.specs.Str.{bytes_eq}
+use Rattle.ask_history.specs.Engine.{asked}
 use Rattle.ask_history.specs.Sources.{is_mutation}
 use Rattle.ask_history.specs.declared.calls.Call.{Call}
-use Rattle.ask_history.specs.declared.calls.Call.TheVariants.{Reload, Remove, TypeAt, MembersAt, ScopeAt, LinkAt, Structure, LoadedTyped}
+use Rattle.ask_history.specs.declared.calls.Call.TheVariants.{Reload, Remove}
 use Rattle.ask_history.specs.declared.script.Order.{Order}
 use Rattle.ask_history.specs.declared.script.Order.TheVariants as order
 use Rattle.ask_history.specs.declared.script.Line.{Line}
@@ -84,15 +85,16 @@ cancelled_by line = cancelled_number line.order
 abbrev pub cancelled : List Line → List ℕ
 cancelled lines = filter_map cancelled_by lines
 
+abbrev pub is_clients : ScriptKind → Bool
+is_clients kind.Client = true
+is_clients kind.Schedule = false
+
 -- `cancel K` names a call line above, once; `wait` is of clients' scripts alone, and `idle` of schedules alone.
 abbrev pub is_meant : ScriptKind → List Line → Order → Bool
-is_meant script lines (order.Call call) = true
 is_meant script lines (order.Cancel k) = is_call_above lines k && not (list_any (nat_eq k) (cancelled lines))
-is_meant script lines order.Close = true
-is_meant kind.Client lines (order.Wait k) = is_call_above lines k
-is_meant kind.Schedule lines (order.Wait k) = false
-is_meant kind.Client lines order.Idle = false
-is_meant kind.Schedule lines order.Idle = true
+is_meant script lines (order.Wait k) = is_clients script && is_call_above lines k
+is_meant script lines order.Idle = not (is_clients script)
+is_meant script lines _ = true
 
 -- ---- a line by itself
 
@@ -109,15 +111,14 @@ abbrev pub is_some_list : {A : Type 0} → List A → Bool
 is_some_list [] = false
 is_some_list (x ∷ xs) = true
 
+abbrev pub is_written_offset : Option ℕ → Bool
+is_written_offset None = true
+is_written_offset (Some offset) = is_number offset
+
 abbrev pub is_written_call : Call → Bool
 is_written_call (Reload entries) = is_some_list entries && are_pairs [] entries
 is_written_call (Remove names) = is_some_list names && list_all is_name names
-is_written_call (TypeAt name offset) = is_name name && is_number offset
-is_written_call (MembersAt name offset) = is_name name && is_number offset
-is_written_call (ScopeAt name offset) = is_name name && is_number offset
-is_written_call (LinkAt name offset) = is_name name && is_number offset
-is_written_call (Structure name) = is_name name
-is_written_call (LoadedTyped name) = is_name name
+is_written_call ask = is_name (asked ask).file && is_written_offset (asked ask).offset
 
 abbrev pub is_written : Order → Bool
 is_written (order.Call call) = is_written_call call

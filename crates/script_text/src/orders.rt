@@ -6,7 +6,7 @@ ghost use Rattle.std.specs.List.{list_all};
 ghost use Rattle.script_text.specs.Words as word_spec;
 ghost use Rattle.script_text.specs.Pieces.{pieces_behind};
 ghost use Rattle.pc_terms.specs.Bytes.{space};
-ghost use Rattle.script_text.specs.Orders.{is_ask_at, TakesPair};
+ghost use Rattle.script_text.specs.Orders.{TakesPair};
 ghost use Rattle.script_text.specs.Reading as spec;
 
 use crate::pieces::{cut, only_piece, two_pieces};
@@ -202,30 +202,24 @@ fn alone(left: Option<&[u8]>, order: Order) -> Option<Order>
     }
 }
 
-// An ask about an offset.
-fn ask_at(alloc: Global, word: Word, left: Option<&[u8]>) -> Result<Option<Order>, NoMemory>
-    requires { is_ask_at word ≡ true }
-    ensures { IfOk result (λ found. found ≡ spec.order_of word (pieces_behind space (option_copied left.entry))) }
-{
-    let Some((name, offset)) = name_and_offset(alloc, left)? else {
-        return Ok(None);
-    };
-    Ok(Some(Order::Call(match word {
-        Word::Type => Call::TypeAt(name, offset),
-        Word::Members => Call::MembersAt(name, offset),
-        Word::Scope => Call::ScopeAt(name, offset),
-        Word::Link => Call::LinkAt(name, offset),
-        _ => unreachable!(),
-    })))
-}
-
 fn order_of(alloc: Global, word: Word, left: Option<&[u8]>) -> Result<Option<Order>, NoMemory>
     ensures { IfOk result (λ found. found ≡ spec.order_of word (pieces_behind space (option_copied left.entry))) }
 {
     match word {
         Word::Reload => reload_of(alloc, left),
         Word::Remove => remove_of(alloc, left),
-        Word::Type | Word::Members | Word::Scope | Word::Link => ask_at(alloc, word, left),
+        Word::Type => Ok(name_and_offset(alloc, left)?.map(|(name, offset)| Order::Call(
+            Call::TypeAt(name, offset),
+        ))),
+        Word::Members => Ok(name_and_offset(alloc, left)?.map(|(name, offset)| Order::Call(
+            Call::MembersAt(name, offset),
+        ))),
+        Word::Scope => Ok(name_and_offset(alloc, left)?.map(|(name, offset)| Order::Call(
+            Call::ScopeAt(name, offset),
+        ))),
+        Word::Link => Ok(name_and_offset(alloc, left)?.map(|(name, offset)| Order::Call(
+            Call::LinkAt(name, offset),
+        ))),
         Word::Structure => Ok(one_name(alloc, left)?.map(|name| Order::Call(Call::Structure(
             name,
         )))),
