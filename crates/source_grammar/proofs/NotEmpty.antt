@@ -28,7 +28,7 @@ type-full (FunOfNone opening closing arrow result) = cons-full _ _
 type-full (FunOfTypes opening types closing arrow result) = cons-full _ _
 type-full (Simple simple) = simple-full simple
 
-spat-full : (d : SPat) → spat_tokens d ≢ []
+pub spat-full : (d : SPat) → spat_tokens d ≢ []
 spat-full (WildPat place) = cons-full _ _
 spat-full (VarPat id) = cons-full _ _
 spat-full (LiteralPat literal) = cons-full _ _

@@ -15,7 +15,7 @@ use Rattle.source_grammar.specs.Newlines.{IsJoined, IsNear, IsJoinedPart, IsNear
 use Rattle.source_grammar.specs.Patterns.{ProperPat}
 use Rattle.source_grammar.specs.Placeholders.{Built, free_of}
 use Rattle.source_grammar.specs.Precedence.{are_of_one_side}
-use Rattle.source_grammar.specs.Types.{WrittenType, FunOfNamed, FunOfNone, FunOfTypes, Simple, SimpleType, Named, NamedType, OfPath}
+use Rattle.source_grammar.specs.Types.{WrittenType, Simple, type_tokens}
 
 -- ---- what may still follow an expression at its right end
 
@@ -72,20 +72,19 @@ keeps_apart (MoreGuards sep word test _) = is_apart sep word
 
 -- ---- `new`, and what directly follows its type
 
--- a path at the end of the type, to which a name or type arguments can be added
-abbrev pub ends_in_path_of : NamedType → Bool
-ends_in_path_of (OfPath path) = true
-ends_in_path_of _ = false
+abbrev pub is_name_kind : TokenKind → Bool
+is_name_kind token.Id = true
+is_name_kind token.BackId = true
+is_name_kind _ = false
 
-abbrev pub ends_simply_in_path : SimpleType → Bool
-ends_simply_in_path (Named named) = ends_in_path_of named
-ends_simply_in_path _ = false
+abbrev pub ends_with_name : List Lexeme → Bool
+ends_with_name [] = false
+ends_with_name (x ∷ []) = is_name_kind x.kind
+ends_with_name (x ∷ y ∷ xs) = ends_with_name (y ∷ xs)
 
+-- A type whose last token is a name ends in a path, to which a name or type arguments can be added.
 abbrev pub ends_in_path : WrittenType → Bool
-ends_in_path (FunOfNamed named arrow result) = ends_in_path result
-ends_in_path (FunOfNone opening closing arrow result) = ends_in_path result
-ends_in_path (FunOfTypes opening types closing arrow result) = ends_in_path result
-ends_in_path (Simple simple) = ends_simply_in_path simple
+ends_in_path type = ends_with_name (type_tokens type)
 
 -- a selection or type arguments behind it belong to the type
 abbrev pub extends_type : Prim → Bool

@@ -146,17 +146,15 @@ abbrev mutual
       ProperSPat pat × (is_bar operator ≡ false) × IsJoined operator.place × IsNearPart (pat3_tokens pats) × ProperPat3 pats
 
   pub ProperSPat : SPat → Type 0
-  ProperSPat (WildPat place) = Unit {0}
   ProperSPat (VarPat id) = is_var id ≡ true
-  ProperSPat (LiteralPat literal) = Unit {0}
   ProperSPat (MinusPat sign number) = IsJoined number.place
   ProperSPat (PathPat path) = is_var_path path.first path.steps ≡ false
   ProperSPat (CallPatOfNone path opening closing) = IsJoined opening
   ProperSPat (CallPat path opening pats closing) = IsJoined opening × ProperPatList pats
-  ProperSPat (UnitPat opening closing) = Unit {0}
   ProperSPat (PatInParentheses opening pat closing) = ProperPat pat
   ProperSPat (PairPat opening a comma_1 b closing) = ProperPat a × ProperPat b
   ProperSPat (TriplePat opening a comma_1 b comma_2 c closing) = ProperPat a × ProperPat b × ProperPat c
+  ProperSPat _ = Unit {0}
 
   pub ProperPatList : PatList → Type 0
   ProperPatList (LastPat pat) = ProperPat pat
