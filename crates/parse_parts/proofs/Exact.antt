@@ -5,9 +5,10 @@ use Rattle.reading_machines.specs.Machines.{run, onward}
 use Rattle.reading_machines.specs.Parts.{CanBegin}
 use Rattle.reading_machines.specs.Laws.{ReadsExactly}
 use Rattle.reading_machines.proofs.Runs.{run-append}
+use Rattle.positioned_trees.specs.declared.trees.Tree.{Tree}
 use Rattle.source_grammar.specs.Lexemes.{Place, Lexeme, close_round, close_square, Arrow, arrow_token, Id, id_token, QualId}
-use Rattle.source_grammar.specs.Types.{WrittenType, Simple, Named, OfPath, Applied, LastType, type_tokens, type_tree}
-use Rattle.parse_parts.specs.Parting.{IsSomeType}
+use Rattle.source_grammar.specs.Types.{WrittenType, Simple, Named, OfPath, Applied, LastType, IsType, type_tokens, type_tree}
+use Rattle.parse_parts.specs.Parting.{IsSomePart}
 use Rattle.parse_parts.proofs.Derived.{Head, NamedHead, NoneHead, TypesHead, Spot, Begin, AtPath, AtDot, AtNamed, AtNone, AtTypes, Bracket, Round, Square, Frame, State, settled, listed, simple_of, longer, step, is_some, whole_at, machine}
 use Rattle.parse_parts.proofs.Sound.{whole-is, type_read, whole-tokens}
 use Rattle.parse_parts.proofs.Along.{at, Leads, leads-none, leads-then, leads-on, leads-one, id-step, arrow-head, last_simple, heads_of, simple-there, settled-there, after, type-along}
@@ -73,19 +74,19 @@ closed (f ∷ fs) hs path = go f.bracket f.done f.heads (λ outer p. closed fs o
 alive : (s : State) → Revived [] s
 alive s = let r = revived s.frames s.heads s.spot in join s.frames [] r.others s (at s.frames r.heads (AtPath r.path)) r.leads (closed s.frames r.heads r.path)
 
-sound : (xs : List Lexeme) (s : State) → run step xs (machine).start ≡ Some s → whole_at s.frames s.spot ≡ true → IsSomeType xs
+sound : (xs : List Lexeme) (s : State) → run step xs (machine).start ≡ Some s → whole_at s.frames s.spot ≡ true → IsSomePart IsType xs
 sound xs s r w =
     let whole = whole-is s w in
     record { tree = type_tree (type_read s.heads whole.simple); is = record { derivation = type_read s.heads whole.simple; tokens = whole-tokens xs s r whole; built = refl } }
 
-begins : (xs : List Lexeme) (s : State) → run step xs (machine).start ≡ Some s → CanBegin IsSomeType xs
+begins : (xs : List Lexeme) (s : State) → run step xs (machine).start ≡ Some s → CanBegin (IsSomePart IsType) xs
 begins xs s r =
     let v = alive s in
     let there : State = at [] v.heads (AtPath v.path) in
     let on : run step v.others s ≡ Some there = ap (λ ys. run step ys s) (sym (append-nil v.others)) ∙ v.leads.runs [] in
     record { others = v.others; part = sound (xs ++ v.others) there (run-append step xs v.others (machine).start ∙ ap (λ o. onward o None (run step v.others)) r ∙ on) refl }
 
-pub reads-types : ReadsExactly IsSomeType machine
+pub reads-types : ReadsExactly (IsSomePart IsType) machine
 reads-types = record {
   complete = λ xs is. (after [] [] is.is.derivation, type-runs is.is.derivation xs is.is.tokens, ap is_some (simple-there (last_simple is.is.derivation)));
   sound = sound;
@@ -102,3 +103,6 @@ one-derivation d e same =
     sym (simple-there (last_simple d)) ∙ ap (λ s. simple_of s.spot) there ∙ simple-there (last_simple e) in
     let simples : last_simple d ≡ last_simple e = cc in
     sym (settled-there d []) ∙ ap (λ hs. settled hs (Simple (last_simple d))) heads ∙ ap (λ s. settled (heads_of e []) (Simple s)) simples ∙ settled-there e []
+
+pub one-tree : (xs : List Lexeme) (t u : Tree) → IsType xs t → IsType xs u → t ≡ u
+one-tree xs t u a b = a.built ∙ ap type_tree (one-derivation a.derivation b.derivation (sym a.tokens ∙ b.tokens)) ∙ sym b.built

@@ -38,6 +38,18 @@ le-is a b e = grind (arith, nat_tests, e)
 pub le-not : (a b : ℕ) → nat_le a b ≡ false → b < a
 le-not a b e = grind (arith, nat_tests, e)
 
+pub kept-some : (tree : Tree) (tall : Tall) → Some tall ≡ kept tree → (tall.tree ≡ tree) × (height tree ≤ max_height)
+kept-some tree tall e = go (nat_le (height tree) max_height) refl e where
+  go : (b : Bool) → nat_le (height tree) max_height ≡ b → Some tall ≡ keep b (height tree) tree → (tall.tree ≡ tree) × (height tree ≤ max_height)
+  go true t e = (let same : tall ≡ record { tree = tree; height = height tree } = cc in ap (λ x. x.tree) same, le-is _ _ t)
+  go false t e = cc
+
+pub kept-none : (tree : Tree) → None ≡ kept tree → max_height < height tree
+kept-none tree e = go (nat_le (height tree) max_height) refl e where
+  go : (b : Bool) → nat_le (height tree) max_height ≡ b → None ≡ keep b (height tree) tree → max_height < height tree
+  go true t e = cc
+  go false t e = le-not _ _ t
+
 lt-suc : (h : ℕ) → nat_lt h max_height ≡ nat_le (h + 1) max_height
 lt-suc h = grind (arith, nat_tests)
 

@@ -6,9 +6,9 @@ pub mod Exact
 pub mod Kept
 pub mod Loops
 pub mod Moves
-pub mod Parsed
 pub mod Places
 pub mod Quotes
+pub mod Readers
 pub mod Shown
 pub mod Seen
 pub mod Sizes
@@ -18,3 +18,6 @@ pub mod Unique
 pub mod Placed
 pub mod Sitting
 pub mod TypesSit
+pub mod GroupsSit
+pub mod PathsSit
+pub mod TokensStand

@@ -13,12 +13,14 @@ use Rattle.scan_tokens.specs.Scanned.{scanned}
 use Rattle.scan_tokens.specs.Words.{Bytes}
 use Rattle.scan_tokens.proofs.ScannedLemmas.{scanned-order}
 use Rattle.source_grammar.specs.Lexemes.{Lexeme, lexeme_of, lexemes}
+use Rattle.source_grammar.specs.Reading.{Production}
 use Rattle.parse_parts.specs.declared.parts.Part.{Part}
 use Rattle.parse_parts.specs.declared.parts.Part.TheVariants.{Read, NotHere, TooHigh}
-use Rattle.parse_parts.specs.Parting.{IsTypeAt}
+use Rattle.parse_parts.specs.Parting.{IsPartAt}
 use Rattle.parse_parts.specs.Standing.{StandsWithin, IsPlacedPart}
+use Rattle.parse_parts.proofs.GroupsSit.{SitsWhere}
 use Rattle.parse_parts.proofs.Sitting.{IsSound, SitsBetween}
-use Rattle.parse_parts.proofs.TypesSit.{StandBetween, token-order, type-here}
+use Rattle.parse_parts.proofs.TokensStand.{StandBetween, token-order}
 
 lexemes-stand : (text : Bytes) (total at : ℕ) (ts : List Token) → at ≤ total → AreInOrder total at ts → StandBetween at (map (lexeme_of text) ts) total
 unfolding lexeme_of
@@ -54,13 +56,14 @@ numbered-within total tree read s stands is =
       within = subst (λ span. span.end ≤ total) (sym (span_kept tree 0)) s.ends;
     })
 
-pub placed-part : (found : Tokens) (at : ℕ) (part : Part) → found ≡ scanned found.text → IsTypeAt (drop at (lexemes found)) at part → IsPlacedPart (length found.text) part
-placed-part found at (Read tree behind) is (le, read) =
+pub placed-part : (Is : Production) → ((xs : List Lexeme) (tree : Tree) → Is xs tree → SitsWhere xs tree)
+    → (found : Tokens) (at : ℕ) (part : Part) → found ≡ scanned found.text → IsPartAt Is (drop at (lexemes found)) at part → IsPlacedPart (length found.text) part
+placed-part Is sits found at (Read tree behind) is (le, read) =
     let ts : List Lexeme = drop at (lexemes found) in
     let total : ℕ = length found.text in
     let s : SitsBetween 0 read.tree total =
-    type-here 0 total (take (behind - at) ts) read.tree (take-stand 0 total (behind - at) ts (drop-stand 0 total at (lexemes found) (found-stand found is))) read.part.part in
+    sits (take (behind - at) ts) read.tree read.part.part 0 total (take-stand 0 total (behind - at) ts (drop-stand 0 total at (lexemes found) (found-stand found is))) in
     numbered-within total read.tree tree s
     (record { low = read.low; encloses = All-weaker IsSound EnclosesKids (λ t sound. sound.encloses) (all_trees read.tree) s.sound }) read.numbers
-placed-part found at (NotHere bad) is at_is = tt
-placed-part found at (TooHigh behind) is at_is = tt
+placed-part Is sits found at (NotHere bad) is at_is = tt
+placed-part Is sits found at (TooHigh behind) is at_is = tt

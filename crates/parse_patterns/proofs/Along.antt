@@ -154,9 +154,6 @@ alternative-there (InfixPat pat) p = infix-there pat None p.1
 type-comma : (type : SimpleType) (c : Place) → simple_step (types_along.at [] [] (simple_spot type)) (comma c) ≡ None
 type-comma type c = ap (λ o. types.parted c o [] []) (simple-there type)
 
-type-close : (type : SimpleType) (c : Place) → simple_step (types_along.at [] [] (simple_spot type)) (close_round c) ≡ None
-type-close type c = refl
-
 type-bar : (type : SimpleType) (c : Place) → simple_step (types_along.at [] [] (simple_spot type)) (bar c) ≡ None
 type-bar (Named (OfPath path)) c = refl
 type-bar (Named _) c = refl

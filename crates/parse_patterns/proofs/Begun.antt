@@ -1,8 +1,8 @@
 -- Each derivation begins with a token, which is all that a newline before it tells.
 use Rattle.std.proofs.Common.{◌≡◌, Bool, true, List, [], ◌∷◌, ◌++◌, Option, refl, ap, sym, ◌∙◌}
 use Rattle.source_grammar.specs.Lexemes.{Lexeme}
-use Rattle.source_grammar.specs.Patterns.{Pat, Pat1, Pat3, SPat, LastAlternative, MoreAlternatives, TypedVar, TypedWild, BoundPat, InfixPat, LastOperand, MoreOperands, WildPat, VarPat, LiteralPat, MinusPat, PathPat, CallPatOfNone, CallPat, UnitPat, PatInParentheses, PairPat, TriplePat, pat_tokens, pat1_tokens, pat3_tokens, spat_tokens}
-use Rattle.parse_patterns.proofs.Derived.{Operation, Binder, Earlier, Bracket, Call, Group, GroupOne, GroupTwo, may_stand, bracket_tokens}
+use Rattle.source_grammar.specs.Patterns.{Pat1, Pat3, SPat, TypedVar, TypedWild, BoundPat, InfixPat, LastOperand, MoreOperands, WildPat, VarPat, LiteralPat, MinusPat, PathPat, CallPatOfNone, CallPat, UnitPat, PatInParentheses, PairPat, TriplePat, pat1_tokens, pat3_tokens, spat_tokens}
+use Rattle.parse_patterns.proofs.Derived.{Operation, Binder, Earlier, may_stand}
 
 -- tokens that begin with this one
 pub record Begins (x : Lexeme) (xs : List Lexeme) : Type 0 where
@@ -49,16 +49,6 @@ pat1-begins (TypedVar id point type) = here _ _
 pat1-begins (TypedWild place point type) = here _ _
 pat1-begins (BoundPat id sign pat) = here _ _
 pat1-begins (InfixPat pat) = pat3-begins pat
-
-pub pat-begins : (d : Pat) → Some_begins (pat_tokens d)
-pat-begins (LastAlternative d) = pat1-begins d
-pat-begins (MoreAlternatives d stroke pats) = some-append (pat1_tokens d) _ (pat1-begins d)
-
-pub bracket-begins : (k : Bracket) → Some_begins (bracket_tokens k)
-bracket-begins (Call path o done) = here _ _
-bracket-begins (Group o) = here _ _
-bracket-begins (GroupOne o a p) = here _ _
-bracket-begins (GroupTwo o a p b q) = here _ _
 
 -- ---- newlines
 

@@ -4,13 +4,14 @@ use Rattle.reading_machines.specs.Machines.{run, onward}
 use Rattle.reading_machines.specs.Parts.{CanBegin}
 use Rattle.reading_machines.specs.Laws.{ReadsExactly}
 use Rattle.reading_machines.proofs.Runs.{run-append}
+use Rattle.positioned_trees.specs.declared.trees.Tree.{Tree}
 use Rattle.source_grammar.specs.Lexemes.{Place, Lexeme, close_round, underscore, id_token}
-use Rattle.source_grammar.specs.Patterns.{Pat, Pat1, SPat, ProperPat, pat_tokens, pat_tree}
+use Rattle.source_grammar.specs.Patterns.{Pat, Pat1, SPat, IsPattern, ProperPat, pat_tokens, pat_tree}
 use Rattle.source_grammar.specs.Types.{SimpleType}
 use Rattle.parse_parts.proofs.Derived as types
 use Rattle.parse_parts.proofs.Derived.{longer, is_some}
 use Rattle.parse_parts.proofs.Seen as types_seen
-use Rattle.parse_patterns.specs.Parting.{IsSomePattern}
+use Rattle.parse_parts.specs.Parting.{IsSomePart}
 use Rattle.parse_patterns.proofs.Alive.{any_place, an_id, Completed, completed}
 use Rattle.parse_patterns.proofs.Along.{Leads, leads-none, leads-then, leads-one, id-step, when-true, type-leads, earlier_of, last_pat1, after, proper-last1, alternated-there, alternative-there, pat-along}
 use Rattle.parse_patterns.proofs.Derived.{Operation, Binder, Earlier, Spot, Begin, AtWild, AtPath, AtDot, AtEnded, Subject, Current, InType, InInfix, Frame, State, simple_in, typed_at, alternative_at, pat_read, may_stand, at, ended_at, closed_as, ended, moved_in, step, whole_at, machine, tokens_in, earlier_tokens}
@@ -144,12 +145,12 @@ closed (f ∷ fs) es current d e =
 alive : (s : State) → Good s → Revived [] s
 alive s g = let r = revived s g in join s.frames [] r.others s (at s.frames r.earlier r.current) r.leads (closed s.frames r.earlier r.current r.last r.ends)
 
-sound : (xs : List Lexeme) (s : State) → run step xs (machine).start ≡ Some s → whole_at s.frames s.current ≡ true → IsSomePattern xs
+sound : (xs : List Lexeme) (s : State) → run step xs (machine).start ≡ Some s → whole_at s.frames s.current ≡ true → IsSomePart IsPattern xs
 sound xs s r w =
     let whole = whole-is xs s r w in
     record { tree = pat_tree (pat_read s.earlier whole.last); is = record { derivation = pat_read s.earlier whole.last; proper = whole.proper; tokens = whole.tokens; built = refl } }
 
-begins : (xs : List Lexeme) (s : State) → run step xs (machine).start ≡ Some s → CanBegin IsSomePattern xs
+begins : (xs : List Lexeme) (s : State) → run step xs (machine).start ≡ Some s → CanBegin (IsSomePart IsPattern) xs
 begins xs s r =
     let v = alive s (run-good xs (machine).start s r start-good) in
     let there : State = at [] v.earlier v.current in
@@ -159,7 +160,7 @@ begins xs s r =
       part = sound (xs ++ v.others) there (run-append step xs v.others (machine).start ∙ ap (λ o. onward o None (run step v.others)) r ∙ on) (ap is_some v.ends);
     }
 
-pub reads-patterns : ReadsExactly IsSomePattern machine
+pub reads-patterns : ReadsExactly (IsSomePart IsPattern) machine
 reads-patterns = record {
   complete = λ xs is. (
     after [] [] is.is.derivation,
@@ -179,3 +180,6 @@ one-derivation d e p q same =
     sym (alternative-there (last_pat1 d) (proper-last1 d p)) ∙ ap (λ s. alternative_at s.current) there ∙ alternative-there (last_pat1 e) (proper-last1 e q) in
     let last : last_pat1 d ≡ last_pat1 e = cc in
     sym (alternated-there d []) ∙ ap (λ s. pat_read s.earlier (last_pat1 d)) there ∙ ap (pat_read (earlier_of e [])) last ∙ alternated-there e []
+
+pub one-tree : (xs : List Lexeme) (t u : Tree) → IsPattern xs t → IsPattern xs u → t ≡ u
+one-tree xs t u a b = a.built ∙ ap pat_tree (one-derivation a.derivation b.derivation a.proper b.proper (sym a.tokens ∙ b.tokens)) ∙ sym b.built

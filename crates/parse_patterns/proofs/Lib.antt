@@ -10,14 +10,11 @@ pub mod Joined
 pub mod Loops
 pub mod Minus
 pub mod Moves
-pub mod Parsed
-pub mod Pictured
-pub mod Places
+pub mod PatternsSit
 pub mod Seen
 pub mod Shown
 pub mod Sides
 pub mod SimpleTypes
 pub mod Sizes
 pub mod Sound
-pub mod Unique
 pub mod Waiting

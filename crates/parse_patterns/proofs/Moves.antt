@@ -311,12 +311,6 @@ numbered-same x b os (derived.AtWild place) es fs = refl
 numbered-same x b os (derived.AtDot path d) es fs = refl
 numbered-same x b os (derived.AtEnded d) es fs = refl
 
-and-swap : (a b : Bool) → (a && b) ≡ (b && a)
-and-swap true true = refl
-and-swap true false = refl
-and-swap false true = refl
-and-swap false false = refl
-
 -- a variable is a path of one name
 alone-name : (path : QualId) → is_var_path path.first path.steps ≡ true → name_of (last_id path) ≡ name_of path.first
 alone-name path v = go path.steps v where

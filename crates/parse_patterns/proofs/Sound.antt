@@ -261,9 +261,6 @@ numbered-adds n b os (AtPath path) es fs =
     adds-when _ _ _ _ (λ h. at-spot fs es b os _ _ (number_token n) (ap (λ xs. xs ++ number_token n ∷ []) (minus-is path (both (is_minus_path path) _ h).0)))
 numbered-adds n b os _ es fs = adds-none _ _
 
-abbrev fresh_level : List Frame → List Earlier → List Lexeme → List Lexeme
-fresh_level fs es xs = frames_tokens fs ++ (earlier_tokens es ++ xs)
-
 fresh-tokens : (fs : List Frame) (es : List Earlier) (old : List Lexeme) (x : Lexeme) → frames_tokens fs ++ (earlier_tokens es ++ (old ++ x ∷ [])) ≡ (frames_tokens fs ++ (earlier_tokens es ++ old)) ++ x ∷ []
 fresh-tokens fs es old x = go (frames_tokens fs) (earlier_tokens es) where
   go : (f e : List Lexeme) → f ++ (e ++ (old ++ x ∷ [])) ≡ (f ++ (e ++ old)) ++ x ∷ []

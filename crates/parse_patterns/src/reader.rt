@@ -7,6 +7,7 @@ ghost use Rattle.scan_tokens.specs.Scanned.{scanned};
 ghost use Rattle.source_grammar.specs.Lexemes.{lexeme_of, lexemes};
 ghost use Rattle.reading_machines.specs.Machines.{reading_of, run};
 ghost use Rattle.reading_machines.specs.Parts.{anything};
+ghost use Rattle.parse_parts.specs.Standing.{IsPlacedPart};
 ghost use Rattle.parse_parts.specs.Words.{IsCut};
 ghost use Rattle.parse_patterns.specs.Parting.{IsPatternAt};
 ghost use Rattle.parse_patterns.specs.Reading as spec;
@@ -126,7 +127,8 @@ pub fn parse_pattern(alloc: Global, tokens: &Tokens, at: u32) -> Result<Part, No
     requires short { length tokens.now.text ≤ max_source_bytes }
     requires scanned { tokens.now ≡ scanned tokens.now.text }
     requires within { at ≤ length tokens.now.tokens }
-    ensures { IfOk result (λ part. IsPatternAt (drop at (lexemes tokens.now)) at part) }
+    ensures is { IfOk result (λ part. IsPatternAt (drop at (lexemes tokens.now)) at part) }
+    ensures placed { IfOk result (λ part. IsPlacedPart (length tokens.now.text) part) }
 {
     let text = tokens.text.as_str();
     parse(alloc, text, &tokens.tokens.as_slice()[at as usize..], at)

@@ -1,4 +1,4 @@
-use Rattle.parse_parts.proofs.Unique.{one-tree}
+use Rattle.parse_parts.proofs.Exact.{one-tree}
 use Rattle.parse_parts.proofs.laws.law_one_tree.Goals as goal
 
 pub returns : goal.returns

@@ -1,7 +1,10 @@
 use Rattle.std.proofs.Common.{◌≤◌, ap, length, length-drop, arith}
 use Rattle.std.proofs.lemmas.Result.{IfOk-weaker}
+use Rattle.source_grammar.specs.Types.{IsType}
 use Rattle.parse_parts.proofs.Placed.{placed-part}
-use Rattle.parse_parts.proofs.Places.{rest-cuts, tokens-few, from-there, behind-all}
+use Rattle.parse_parts.proofs.Places.{rest-cuts, tokens-few, behind-all}
+use Rattle.parse_parts.proofs.Readers.{from-there}
+use Rattle.parse_parts.proofs.TypesSit.{type-here}
 use Rattle.parse_parts.proofs.reader.parse_type.Goals as goal
 
 pub parse-requires-clause-cut : goal.parse-requires-clause-cut
@@ -19,10 +22,10 @@ parse-requires-clause-few c =
 pub returns-clause-is : goal.returns-clause-is
 returns-clause-is c =
     IfOk-weaker c.parse.result _ _
-    (λ part is. from-there c.args.tokens.now c.as_str-text.result.now c.args.at _ part c.as_str-text.ensures
+    (λ part is. from-there IsType c.args.tokens.now c.as_str-text.result.now c.args.at _ part c.as_str-text.ensures
     (behind-all c.args.tokens.now.tokens c.as_slice.result.now c.args.at c.as_slice.ensures) is)
     c.parse.ensures
 
 pub returns-clause-placed : goal.returns-clause-placed
 returns-clause-placed c =
-    IfOk-weaker c.parse.result _ _ (λ part is. placed-part c.args.tokens.now c.args.at part c.requires.scanned is) (returns-clause-is c)
+    IfOk-weaker c.parse.result _ _ (λ part is. placed-part IsType type-here c.args.tokens.now c.args.at part c.requires.scanned is) (returns-clause-is c)

@@ -1,4 +1,4 @@
-use Rattle.parse_patterns.proofs.Unique.{one-tree}
+use Rattle.parse_patterns.proofs.Exact.{one-tree}
 use Rattle.parse_patterns.proofs.laws.law_one_pattern_tree.Goals as goal
 
 pub returns : goal.returns

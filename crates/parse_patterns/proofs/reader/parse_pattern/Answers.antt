@@ -1,7 +1,10 @@
 use Rattle.std.proofs.Common.{◌≤◌, ap, length, length-drop, arith}
 use Rattle.std.proofs.lemmas.Result.{IfOk-weaker}
+use Rattle.source_grammar.specs.Patterns.{IsPattern}
+use Rattle.parse_parts.proofs.Placed.{placed-part}
 use Rattle.parse_parts.proofs.Places.{rest-cuts, tokens-few, behind-all}
-use Rattle.parse_patterns.proofs.Places.{from-there}
+use Rattle.parse_parts.proofs.Readers.{from-there}
+use Rattle.parse_patterns.proofs.PatternsSit.{pattern-here}
 use Rattle.parse_patterns.proofs.reader.parse_pattern.Goals as goal
 
 pub parse-requires-clause-cut : goal.parse-requires-clause-cut
@@ -16,9 +19,13 @@ parse-requires-clause-few c =
     let rest = ap length (behind-all c.args.tokens.now.tokens c.as_slice.result.now c.args.at c.as_slice.ensures) in
     omega (arith, few, rest, length-drop c.args.at c.args.tokens.now.tokens, ap length c.as_str-text.ensures, c.requires.short, c.requires.within)
 
-pub returns : goal.returns
-returns c =
+pub returns-clause-is : goal.returns-clause-is
+returns-clause-is c =
     IfOk-weaker c.parse.result _ _
-    (λ part is. from-there c.args.tokens.now c.as_str-text.result.now c.args.at _ part c.as_str-text.ensures
+    (λ part is. from-there IsPattern c.args.tokens.now c.as_str-text.result.now c.args.at _ part c.as_str-text.ensures
     (behind-all c.args.tokens.now.tokens c.as_slice.result.now c.args.at c.as_slice.ensures) is)
     c.parse.ensures
+
+pub returns-clause-placed : goal.returns-clause-placed
+returns-clause-placed c =
+    IfOk-weaker c.parse.result _ _ (λ part is. placed-part IsPattern pattern-here c.args.tokens.now c.args.at part c.requires.scanned is) (returns-clause-is c)
