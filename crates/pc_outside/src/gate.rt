@@ -15,6 +15,7 @@ impl Gate for OpenGate {
 }
 
 /// The gate of a test. It holds the engine at its first safe point, from one meeting with another thread to the next.
+#[derive(Drop)]
 pub struct HoldingGate<'a> {
     meetings: &'a Barrier,
     held: bool,
