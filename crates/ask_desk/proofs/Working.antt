@@ -1,14 +1,18 @@
 -- What the calls of the engine's pass do to it.
-use Rattle.std.proofs.Common.{◌≡◌, ◌⊎◌, inl, inr, ℕ, ◌+◌, ◌<◌, ◌≤◌, ◌==◌, Bool, true, false, true≢false, not, ◌||◌, ◌&&◌, is_none, is_some, IsTrue, if◌then◌else◌, List, [], ◌∷◌, ◌++◌, length, Some, None, refl, sym, ap, ◌∙◌, subst, arith, append_assoc, append-nil}
+use Rattle.std.proofs.Common.{◌≡◌, ◌⊎◌, inl, inr, ℕ, ◌+◌, ◌<◌, ◌≤◌, ◌==◌, Bool, true, false, true≢false, not, ◌||◌, ◌&&◌, cond, is_none, is_some, IsTrue, if◌then◌else◌, List, [], ◌∷◌, ◌++◌, length, Option, Some, None, Result, refl, sym, ap, ◌∙◌, subst, arith, append_assoc, append-nil}
 use Rattle.std.proofs.Math.Bool.{or-false}
 use Rattle.std.proofs.lemmas.Bool.{and_parts, and_from}
+use Rattle.std.specs.List.{find}
+use Rattle.std.proofs.lemmas.List.Sums.{sum_by-append}
 use Rattle.std.proofs.lemmas.List.Folds.{list_any-append}
 use Rattle.std.proofs.lemmas.List.Elements.{filter-append}
 use mathlib.Core.List.{IsPrefix}
+use Rattle.pc_terms.specs.declared.errors.NoMemory.{NoMemory}
 use Rattle.pc_terms.specs.declared.problems.Problem.{Problem}
 use Rattle.ask_history.specs.Sources.{Bytes}
-use Rattle.ask_history.specs.Journal.{accepted, by_mark, call_of, is_cancelled, is_close, is_closed, is_open, is_settled, mutation_only, taking_effect}
+use Rattle.ask_history.specs.Journal.{accepted, is_accept, by_mark, call_of, is_cancelled, is_close, is_closed, is_open, is_settled, mutation_only, taking_effect}
 use Rattle.ask_history.specs.Legal.{is_legal, is_next, may_follow}
+use Rattle.ask_history.specs.declared.calls.Call.{Call}
 use Rattle.ask_history.specs.declared.answers.Answer.TheVariants as answer
 use Rattle.ask_history.specs.declared.engine.Effect.{Effect}
 use Rattle.ask_history.specs.declared.engine.Effect.TheVariants.{Dropped}
@@ -30,10 +34,13 @@ use Rattle.counting_word.proofs.Counting.{journal_of-append}
 use Rattle.ask_desk.specs.Answers.{is_rightful, may_make}
 use Rattle.ask_desk.specs.Facts.{IsPass}
 use Rattle.ask_desk.specs.Locked.{IsDesk, AreSettled}
-use Rattle.ask_desk.specs.Driving.{is_others, are_others, IsLater, Works, settled_as, Settles, checking, Checks, Looks}
+use Rattle.journal_laws.specs.Others.{is_others, are_others}
+use Rattle.journal_laws.specs.Stays.{Stays}
+use Rattle.journal_laws.proofs.Others.{others_stay, closed-further}
+use Rattle.ask_desk.specs.Driving.{IsLater, Works, settled_as, Settles, checking, Checks, Looks, IsPosted, Finds}
 use Rattle.ask_desk.specs.declared.driving.News.{News}
 use Rattle.ask_desk.specs.declared.driving.CheckNoted.TheVariants as noted
-use Rattle.ask_desk.proofs.Others.{Stays, others_stay, closed-further, open_stays, check_stays}
+use Rattle.ask_desk.proofs.Others.{open_stays, check_stays}
 use Rattle.ask_desk.proofs.Passing.{settled-begins}
 
 -- ---- what others did
@@ -95,6 +102,9 @@ later_stays old now later legal open_ =
 pub later_open : (old now : List Entry) → IsLater old now → is_closed (journal_of now) ≡ false → is_closed (journal_of old) ≡ false
 later_open old now later open_ =
     closed-further (journal_of old) (journal_of later.others) (sym (ap is_closed (ap journal_of later.behind ∙ journal_of-append old later.others)) ∙ open_)
+
+accepted-append : (front back : List Event) → accepted front ≤ accepted (front ++ back)
+accepted-append front back = omega (arith, sum_by-append (λ (e : Event). cond (is_accept e) 1 0) front back)
 
 -- ---- a ticket that is settled
 
@@ -233,7 +243,8 @@ module _ (queue : QueueState) (cells : List Cell) (limits : Limits) (old scribe 
   next_led ticket open_ h next =
       let called = (and_parts (is_some (call_of (journal_of old.seen) ticket)) (not (is_settled (journal_of old.seen) ticket)) h).0 in
       let s = stays (closed_led false open_) in
-      s.next ticket (accepted_below (journal_of old.seen) pass.knows.legal ticket called) next
+      let below = accepted_below (journal_of old.seen) pass.knows.legal ticket called in
+      s.next ticket (omega arith) next
 
   pub due_led : (file : Bytes) → is_closed queue.journal ≡ false → IsTrue (may_follow (journal_of old.seen) (Checked file)) → IsTrue (may_follow (journal_of led.seen) (Checked file))
   due_led file open_ may =
@@ -249,6 +260,30 @@ module _ (queue : QueueState) (cells : List Cell) (limits : Limits) (old scribe 
         works = subst (λ before. Works old before [] new) same w;
         accepted_calls = count ∙ ap accepted (sym desk.journal) ∙ ap (λ es. accepted (journal_of es)) same;
         shut = shut ∙ ap is_closed (sym desk.journal) ∙ ap (λ es. is_closed (journal_of es)) same;
+      }
+
+  pub cancelled_call : (new next : View) (tickets : List ℕ) → GivesLead led new next
+      → find (is_cancelled queue.journal) tickets ≡ find (is_cancelled (journal_of new.seen)) tickets
+  cancelled_call new next tickets gives =
+      let w = works_none new next gives in
+      ap (λ js. find (is_cancelled js) tickets) (sym desk.journal ∙ ap journal_of (sym (append-nil scribe.seen) ∙ sym w.seen))
+
+  pub there_led : (ticket : ℕ) → ticket < accepted (journal_of old.seen) → ticket < accepted queue.journal
+  there_led ticket within =
+      let l = later in
+      let same : queue.journal ≡ journal_of old.seen ++ journal_of l.others = sym desk.journal ∙ ap journal_of l.behind ∙ journal_of-append old.seen l.others in
+      let more = accepted-append (journal_of old.seen) (journal_of l.others) in
+      let count : accepted queue.journal ≡ accepted (journal_of old.seen ++ journal_of l.others) = ap accepted same in
+      omega arith
+
+  pub finds_call : (new next : View) (ticket : ℕ) (found : Result (Option Call) NoMemory) → GivesLead led new next → IsPosted queue.journal ticket found
+      → Finds old new ticket found
+  finds_call new next ticket found gives finds =
+      let w = works_none new next gives in
+      let same : scribe.seen ≡ new.seen = sym (append-nil scribe.seen) ∙ sym w.seen in
+      record {
+        works = subst (λ before. Works old before [] new) same w;
+        finds = subst (λ js. IsPosted js ticket found) (sym desk.journal ∙ ap journal_of same) finds;
       }
 
   pub settles_call : (done new next : View) (ticket : ℕ) (what : Settling) (effect : Effect) → is_closed queue.journal ≡ false

@@ -1,11 +1,15 @@
 -- What the engine's pass does at a desk: it settles calls, and notes checks.
-use Rattle.std.specs.Prelude.{◌≡◌, ℕ, ◌≤◌, Bool, true, false, ◌&&◌, ◌||◌, IsTrue, if◌then◌else◌, List, [], ◌∷◌, ◌++◌, length}
+use Rattle.std.specs.Prelude.{◌≡◌, ℕ, ◌≤◌, true, false, IsTrue, if◌then◌else◌, List, [], ◌∷◌, ◌++◌, length, Option, Some, None, Result, Ok, Err}
 use Rattle.ask_history.specs.Sources.{Bytes}
-use Rattle.ask_history.specs.Journal.{accepted, is_close, is_closed, reply, taking_effect}
+use Rattle.ask_history.specs.Journal.{accepted, is_closed, is_settled, reply, taking_effect}
 use Rattle.ask_history.specs.Legal.{is_legal}
+use Rattle.ask_history.specs.declared.calls.Call.{Call}
 use Rattle.ask_history.specs.declared.engine.Effect.{Effect}
 use Rattle.ask_history.specs.declared.events.Event.{Event}
 use Rattle.ask_history.specs.declared.events.Event.TheVariants.{Settle, Checked}
+use Rattle.journal_laws.specs.Others.{are_others}
+use Rattle.journal_laws.specs.Waiting.{Waits, CanFeed}
+use Rattle.pc_terms.specs.declared.errors.NoMemory.{NoMemory as WithoutMemory}
 use Rattle.pc_terms.specs.declared.problems.Problem.{Problem}
 use Rattle.work_queue.specs.Queue.{mark_of, value_of, effect_of}
 use Rattle.work_queue.specs.declared.limits.Settling.{Settling}
@@ -19,17 +23,6 @@ use Rattle.ask_desk.specs.Passes.{Moves}
 use Rattle.ask_desk.specs.declared.driving.News.{News}
 use Rattle.ask_desk.specs.declared.driving.CheckNoted.{CheckNoted}
 use Rattle.ask_desk.specs.declared.driving.CheckNoted.TheVariants.{Noted, ShutDown, NoMemory}
-
--- an event that others than the engine may make, before the shutdown or behind it
-abbrev pub is_others : Bool → Event → Bool
-is_others closed (Checked file) = false
-is_others closed (Settle ticket mark) = closed
-is_others closed _ = true
-
--- each of these events may be made by others, where the shutdown stands before them or not
-abbrev pub are_others : Bool → List Event → Bool
-are_others closed [] = true
-are_others closed (event ∷ events) = is_others closed event && are_others (closed || is_close event) events
 
 -- What others did behind what the engine's pass had seen: nothing of it is the engine's, and none of it is a check, or a
 -- settling before the shutdown.
@@ -83,3 +76,15 @@ pub record Looks (old new : View) (news : News) : Type 0 where
   pub works : Works old new.seen [] new
   pub accepted_calls : news.accepted ≡ accepted (journal_of new.seen)
   pub shut : news.is_closed ≡ is_closed (journal_of new.seen)
+
+-- What is found of an accepted ticket: its call, where it waits to be fed, or that it is settled. Out of memory for a copy of
+-- the call it waits.
+abbrev pub IsPosted : List Event → ℕ → Result (Option Call) WithoutMemory → Type 0
+IsPosted journal ticket (Ok (Some call)) = CanFeed journal ticket call
+IsPosted journal ticket (Ok None) = is_settled journal ticket ≡ true
+IsPosted journal ticket (Err refused) = Waits journal ticket
+
+-- The engine's pass looks at the call of a ticket.
+pub record Finds (old new : View) (ticket : ℕ) (found : Result (Option Call) WithoutMemory) : Type 0 where
+  pub works : Works old new.seen [] new
+  pub finds : IsPosted (journal_of new.seen) ticket found

@@ -1,7 +1,8 @@
 //! The queue and the cells of a desk, which a pass that leads writes into the history.
 ghost use Rattle.std.specs.Prelude.{◌≡◌, ◌⊎◌, ℕ, ◌<◌, ◌≤◌, ◌+◌, ◌^◌, ◌++◌, ◌∷◌, [], length, Some, None, IsTrue, IfOk, IfErr, OnOk, OnErr, true, false, is_some, List};
+ghost use Rattle.std.specs.List.{find};
 ghost use Rattle.ask_history.specs.Engine.{has_file_names};
-ghost use Rattle.ask_history.specs.Journal.{accepted, is_closed, is_open, is_settled, taking_effect};
+ghost use Rattle.ask_history.specs.Journal.{accepted, is_cancelled, is_closed, is_open, is_settled, taking_effect};
 ghost use Rattle.ask_history.specs.Legal.{is_legal, is_next, may_follow};
 ghost use Rattle.ask_history.specs.declared.events.Event.{Event as AnEvent};
 ghost use Rattle.ask_history.specs.declared.events.Event.TheVariants.{Accept, Cancel, Checked};
@@ -12,7 +13,7 @@ ghost use Rattle.counting_word.specs.History.{journal_of, engine_number};
 ghost use Rattle.counting_word.specs.Views.{appended};
 ghost use Rattle.work_queue.specs.Indexes.{close_index};
 ghost use Rattle.ask_desk.specs.Answers.{written, closing};
-ghost use Rattle.ask_desk.specs.Driving.{settled_as, checking};
+ghost use Rattle.ask_desk.specs.Driving.{settled_as, checking, IsPosted};
 ghost use Rattle.ask_desk.specs.Locked.{IsDesk, AreSettled, told};
 ghost use Rattle.ask_desk.specs.Events.{settled_ticket};
 ghost use Rattle.work_queue.specs.declared.limits.PostRefused.TheVariants.{NoMemory as NoRoom};
@@ -22,7 +23,7 @@ use counting_word::{Counter, Room, Seat};
 use pc_terms::{NoMemory, Problem, Row, Text};
 use response_cell::Cells;
 use std::alloc::Global;
-use work_queue::{CancelSeen, PostRefused, Queue, Settling};
+use work_queue::{CancelSeen, PostRefused, Queue, Settling, copied};
 
 /// What a desk keeps: its calls, and the answers that wait.
 #[derive(Drop)]
@@ -143,6 +144,32 @@ impl Books {
         counter.append_answer(seat, last_event(self.queue.journal()), &answer);
         self.cells.set(ticket, answer);
         effect
+    }
+
+    /// The first of these tickets of which a cancel stands.
+    pub fn first_cancelled(&self, tickets: &[u64]) -> Option<u64>
+        ensures { result ≡ find (is_cancelled self.now.queue.journal) tickets.now }
+    {
+        for ticket in tickets {
+            if self.queue.is_cancelled(*ticket) {
+                return Some(*ticket);
+            }
+        }
+        None
+    }
+
+    /// A copy of the call of an accepted ticket, unless it is settled.
+    pub fn posted(&self, alloc: Global, ticket: u64) -> Result<Option<Call>, NoMemory>
+        requires { ticket < accepted self.now.queue.journal }
+        ensures { IsPosted self.now.queue.journal ticket result }
+    {
+        if self.queue.is_settled(ticket) {
+            return Ok(None);
+        }
+        match copied(alloc, self.queue.call(ticket)) {
+            Ok(call) => Ok(Some(call)),
+            Err(refused) => Err(refused),
+        }
     }
 
     /// Notes a check in the name of the seat, which leads and is the engine's, with the problems that it found.

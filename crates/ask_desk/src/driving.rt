@@ -1,17 +1,19 @@
 //! What the engine's pass does at a desk: it looks for calls, settles them, and notes checks.
+ghost use Rattle.std.specs.List.{find};
 ghost use Rattle.std.specs.Prelude.{◌≡◌, ◌⊎◌, ◌<◌, Some, IsTrue, true};
-ghost use Rattle.ask_history.specs.Journal.{is_open};
+ghost use Rattle.ask_history.specs.Journal.{accepted, is_cancelled, is_open};
 ghost use Rattle.ask_history.specs.Legal.{is_next, may_follow};
 ghost use Rattle.ask_history.specs.declared.events.Event.TheVariants.{Checked};
 ghost use Rattle.counting_word.specs.History.{journal_of, engine_number};
-ghost use Rattle.ask_desk.specs.Driving.{Looks, Settles, Checks};
+ghost use Rattle.ask_desk.specs.Driving.{Looks, Finds, Settles, Checks};
 
 use crate::desk::Desk;
 use crate::locked::Locked;
 use crate::pass::{EnginePass, Pass};
-use ask_history::Effect;
+use ask_history::{Call, Effect};
 use counting_word::{Counter, Room};
-use pc_terms::{Problem, Row, Text};
+use pc_terms::{NoMemory, Problem, Row, Text};
+use std::alloc::Global;
 use std::sync::Wait;
 use work_queue::Settling;
 
@@ -41,13 +43,46 @@ impl<B: Room> Locked<B> {
         requires { pass.old.name.number ≡ Some engine_number }
         ensures looks { Looks pass.old pass.new result }
     {
+        self.look_over(counter, pass, &[]).0
+    }
+
+    /// The same, with the first of these tickets of which a cancel stands. It takes no memory.
+    pub fn look_over(
+        &mut self,
+        counter: &Counter<B>,
+        pass: &mut Pass<B>,
+        tickets: &[u64],
+    ) -> (News, Option<u64>)
+        requires { pass.old.name.number ≡ Some engine_number }
+        ensures looks { Looks pass.old pass.new result.0 }
+        ensures cancelled { result.1 ≡ find (is_cancelled (journal_of pass.new.seen)) tickets.now }
+    {
         counter.take_lead(&mut pass.seat, &mut self.scribe);
         let news = News {
             accepted: self.books.queue.accepted(),
             is_closed: self.books.queue.is_closed(),
         };
+        let cancelled = self.books.first_cancelled(tickets);
         counter.give_lead(&mut pass.seat, &mut self.scribe);
-        news
+        (news, cancelled)
+    }
+
+    /// A copy of the call of an accepted ticket, unless it is settled.
+    pub fn posted(
+        &mut self,
+        alloc: Global,
+        counter: &Counter<B>,
+        pass: &mut Pass<B>,
+        ticket: u64,
+    ) -> Result<Option<Call>, NoMemory>
+        requires engine { pass.old.name.number ≡ Some engine_number }
+        requires there { ticket < accepted (journal_of pass.old.seen) }
+        ensures { Finds pass.old pass.new ticket result }
+    {
+        counter.take_lead(&mut pass.seat, &mut self.scribe);
+        let found = self.books.posted(alloc, ticket);
+        counter.give_lead(&mut pass.seat, &mut self.scribe);
+        found
     }
 
     /// Settles the call of a ticket that was open, unless the session is shut down, where all calls are settled. Says whether
@@ -112,6 +147,41 @@ impl<B: Room> Desk<B> {
         ensures made { engine.new.made ≡ engine.old.made }
     {
         self.locked.lock(rt).look(&self.counter, &mut engine.pass)
+    }
+
+    /// The same, with the first of these tickets of which a cancel stands. It takes no memory.
+    pub fn look_over<R: Wait>(
+        &self,
+        rt: &R,
+        engine: &mut EnginePass<B>,
+        tickets: &[u64],
+    ) -> (News, Option<u64>)
+        requires { engine.old.pass.name.number ≡ Some engine_number }
+        ensures looks { Looks engine.old.pass engine.new.pass result.0 }
+        ensures cancelled { result.1 ≡ find (is_cancelled (journal_of engine.new.pass.seen)) tickets.now }
+        ensures made { engine.new.made ≡ engine.old.made }
+    {
+        self.locked
+            .lock(rt)
+            .look_over(&self.counter, &mut engine.pass, tickets)
+    }
+
+    /// A copy of the call of an accepted ticket, unless it is settled.
+    pub fn posted<R: Wait>(
+        &self,
+        rt: &R,
+        alloc: Global,
+        engine: &mut EnginePass<B>,
+        ticket: u64,
+    ) -> Result<Option<Call>, NoMemory>
+        requires engine { engine.old.pass.name.number ≡ Some engine_number }
+        requires there { ticket < accepted (journal_of engine.old.pass.seen) }
+        ensures finds { Finds engine.old.pass engine.new.pass ticket result }
+        ensures made { engine.new.made ≡ engine.old.made }
+    {
+        self.locked
+            .lock(rt)
+            .posted(alloc, &self.counter, &mut engine.pass, ticket)
     }
 
     /// Waits until more calls than these are accepted, or the session is shut down. It takes no memory.

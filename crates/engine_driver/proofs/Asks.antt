@@ -1,6 +1,6 @@
 -- The open asks, and the tickets that the driver keeps of them.
 use Rattle.std.proofs.Common.{◌≡◌, ℕ, ◌<◌, Bool, true, false, true≢false, not, ◌||◌, ◌==◌, if◌then◌else◌, is_some, IsTrue, List, [], ◌∷◌, ◌++◌, map, filter, Some, refl, sym, ap, ◌∙◌, subst, arith}
-use Rattle.std.specs.List.{list_any, AllByRecursion}
+use Rattle.std.specs.List.{find, list_any, AllByRecursion}
 use Rattle.std.proofs.lemmas.Bool.{and_from, eqb-true}
 use Rattle.std.proofs.lemmas.Bool.Decides.{nat_tests}
 use Rattle.ask_history.specs.Engine.{EngineState, is_open_in, is_staged, IsOnTop}
@@ -8,7 +8,6 @@ use Rattle.ask_history.specs.Journal.{call_of, is_open, is_settled}
 use Rattle.ask_history.specs.Legal.{is_next}
 use Rattle.ask_history.specs.declared.calls.Call.{Call}
 use Rattle.ask_history.specs.declared.events.Event.{Event}
-use Rattle.engine_driver.specs.Board.{first_cancelled}
 use Rattle.engine_driver.specs.Serving.{IsAsked, Serves}
 use Rattle.ask_history.specs.Journal.{is_cancelled}
 use Rattle.journal_laws.proofs.Settling.{next_below}
@@ -126,7 +125,7 @@ pub record IsDropped (journal : List Event) (opened : List ℕ) (ticket : ℕ) :
   pub there : list_any (λ open_. open_ == ticket) opened ≡ true
   pub cancelled : IsTrue (is_cancelled journal ticket)
 
-pub first_dropped : (journal : List Event) (opened : List ℕ) (ticket : ℕ) → first_cancelled journal opened ≡ Some ticket → IsDropped journal opened ticket
+pub first_dropped : (journal : List Event) (opened : List ℕ) (ticket : ℕ) → find (is_cancelled journal) opened ≡ Some ticket → IsDropped journal opened ticket
 first_dropped journal [] ticket h = cc
 first_dropped journal (t ∷ ts) ticket h = by (is_cancelled journal t) refl h (λ k. first_dropped journal ts ticket k)
   where
@@ -137,7 +136,7 @@ first_dropped journal (t ∷ ts) ticket h = by (is_cancelled journal t) refl h (
     own : (t == t) ≡ true
     own = grind (arith, nat_tests)
 
-    by : (b : Bool) → is_cancelled journal t ≡ b → (if b then Some t else first_cancelled journal ts) ≡ Some ticket
-        → (first_cancelled journal ts ≡ Some ticket → IsDropped journal ts ticket) → IsDropped journal (t ∷ ts) ticket
+    by : (b : Bool) → is_cancelled journal t ≡ b → (if b then Some t else find (is_cancelled journal) ts) ≡ Some ticket
+        → (find (is_cancelled journal) ts ≡ Some ticket → IsDropped journal ts ticket) → IsDropped journal (t ∷ ts) ticket
     by true e k later = let same : t ≡ ticket = cc in subst (IsDropped journal (t ∷ ts)) same (record { there = ap (λ b. b || list_any (λ open_. open_ == t) ts) own; cancelled = e })
     by false e k later = let d = later k in record { there = ap (λ b. (t == ticket) || b) d.there ∙ or_true (t == ticket); cancelled = d.cancelled }

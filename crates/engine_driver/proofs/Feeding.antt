@@ -87,9 +87,9 @@ staging_open journal state n opened staging =
 
 -- ---- the beginning
 
-pub drives_start : (journal : List Event) (state : EngineState) → CanDrive journal state → Drives journal state 0 []
-drives_start journal state can = record {
-  legal = can.legal;
+pub drives_start : (journal : List Event) (state : EngineState) → IsTrue (is_legal journal) → CanDrive journal state → Drives journal state 0 []
+drives_start journal state legal can = record {
+  legal = legal;
   sources = can.sources;
   staged = can.staged;
   serves = λ k. record {
@@ -102,9 +102,9 @@ drives_start journal state can = record {
 }
 
 -- a driver that fed nothing
-pub drives_new : (journal : List Event) (state : EngineState) (n : ℕ) (opened : List ℕ) → CanDrive journal state → n ≡ 0 → opened ≡ [] → Drives journal state n opened
-drives_new journal state n opened can count none =
-    subst (λ (k : ℕ). Drives journal state k opened) (sym count) (subst (Drives journal state 0) (sym none) (drives_start journal state can))
+pub drives_new : (journal : List Event) (state : EngineState) (n : ℕ) (opened : List ℕ) → IsTrue (is_legal journal) → CanDrive journal state → n ≡ 0 → opened ≡ [] → Drives journal state n opened
+drives_new journal state n opened legal can count none =
+    subst (λ (k : ℕ). Drives journal state k opened) (sym count) (subst (Drives journal state 0) (sym none) (drives_start journal state legal can))
 
 -- ---- the end
 

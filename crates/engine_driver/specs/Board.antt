@@ -1,9 +1,9 @@
 -- What the calls of a board tell, and what they put into the history.
-use Rattle.std.specs.Prelude.{◌≡◌, ◌⊎◌, ℕ, ◌<◌, ◌^◌, true, false, IsTrue, if◌then◌else◌, List, [], ◌∷◌, ◌++◌, length, Option, Some, None}
+use Rattle.std.specs.Prelude.{◌≡◌, ◌⊎◌, ℕ, ◌<◌, true, IsTrue, if◌then◌else◌, List, [], ◌∷◌, ◌++◌, Option, Some, None}
+use Rattle.std.specs.List.{find}
 use Rattle.pc_terms.specs.declared.problems.Problem.{Problem}
-use Rattle.ask_history.specs.Sources.{Bytes, mutated}
-use Rattle.ask_history.specs.Engine.{HasFileSizes, has_file_names}
-use Rattle.ask_history.specs.Journal.{accepted, after, call_of, is_closed, is_cancelled, is_settled, reply, taking_effect}
+use Rattle.ask_history.specs.Sources.{Bytes}
+use Rattle.ask_history.specs.Journal.{accepted, is_closed, is_cancelled, is_settled, reply, taking_effect}
 use Rattle.ask_history.specs.Legal.{is_legal}
 use Rattle.ask_history.specs.declared.answers.Answer.{Answer}
 use Rattle.ask_history.specs.declared.answers.Answer.TheVariants as answer
@@ -14,6 +14,7 @@ use Rattle.ask_history.specs.declared.events.Event.{Event}
 use Rattle.ask_history.specs.declared.events.Event.TheVariants.{Settle, Checked}
 use Rattle.ask_history.specs.declared.events.Mark.{Mark}
 use Rattle.ask_history.specs.declared.events.Mark.TheVariants as mark
+pub use Rattle.journal_laws.specs.Waiting.{Waits, CanFeed}
 use Rattle.engine_driver.specs.History.{Entry, journal_of, IsLater}
 use Rattle.engine_driver.specs.declared.board.News.{News}
 use Rattle.engine_driver.specs.declared.board.Posted.{Posted}
@@ -23,17 +24,13 @@ use Rattle.engine_driver.specs.declared.board.CheckNoted.TheVariants.{Noted, Shu
 
 -- ---- looks
 
--- the first of these tickets of which a cancel stands
-abbrev pub first_cancelled : List Event → List ℕ → Option ℕ
-first_cancelled journal [] = None
-first_cancelled journal (t ∷ ts) = if is_cancelled journal t then Some t else first_cancelled journal ts
-
--- A look: how many calls are accepted, whether the session is shut down, and which of the open tickets is cancelled.
+-- A look: how many calls are accepted, whether the session is shut down, and the first of the open tickets of which a cancel
+-- stands.
 pub record Looks (old new : List Entry) (opened : List ℕ) (news : News) : Type 0 where
   pub later : IsLater old new
   pub accepted_calls : news.accepted ≡ accepted (journal_of new)
   pub shut : news.is_closed ≡ is_closed (journal_of new)
-  pub cancelled : news.cancelled ≡ first_cancelled (journal_of new) opened
+  pub cancelled : news.cancelled ≡ find (is_cancelled (journal_of new)) opened
 
 -- More calls than these are accepted, or the session is shut down.
 pub record Awaits (old new : List Entry) (count : ℕ) : Type 0 where
@@ -41,19 +38,6 @@ pub record Awaits (old new : List Entry) (count : ℕ) : Type 0 where
   pub more : (is_closed (journal_of new) ≡ true) ⊎ (count < accepted (journal_of new))
 
 -- ---- calls
-
--- The ticket is not settled, and the session is not shut down.
-pub record Waits (journal : List Event) (ticket : ℕ) : Type 0 where
-  pub unshut : is_closed journal ≡ false
-  pub unsettled : is_settled journal ticket ≡ false
-
--- The call of a ticket, which waits to be fed: an engine may be fed it.
-pub record CanFeed (journal : List Event) (ticket : ℕ) (call : Call) : Type 0 where
-  pub waiting : Waits journal ticket
-  pub called : call_of journal ticket ≡ Some call
-  pub sizes : HasFileSizes call
-  pub names : has_file_names call ≡ true
-  pub few : length (mutated (after journal) call) < 2 ^ 31
 
 -- what is found of an accepted ticket
 abbrev pub Finds : List Event → ℕ → Posted → Type 0

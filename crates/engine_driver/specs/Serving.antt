@@ -45,7 +45,6 @@ pub record Drives (journal : List Event) (state : EngineState) (next : ℕ) (ope
 -- An engine that can be driven from here on: it has the sources after the journal, no call is open and nothing is staged,
 -- and it checked or skipped what is checked there.
 pub record CanDrive (journal : List Event) (state : EngineState) : Type 0 where
-  pub legal : IsTrue (is_legal journal)
   pub sources : state.sources ≡ after journal
   pub asks : state.asks ≡ []
   pub staged : state.staged ≡ None

@@ -1,4 +1,6 @@
 //! Drives an engine until the session is shut down.
+ghost use Rattle.std.specs.Prelude.{IsTrue};
+ghost use Rattle.ask_history.specs.Legal.{is_legal};
 ghost use Rattle.report_hub.specs.Hub.{reporters_of, of_box, IsToldMost, OfEach};
 ghost use Rattle.engine_driver.specs.History.{journal_of};
 ghost use Rattle.engine_driver.specs.Serving.{CanDrive, IsServed};
@@ -22,6 +24,7 @@ pub fn drive<R: Wait, B: Board, E: Engine>(
     hub: &mut Hub,
     found: &mut Vec<Row<Problem>>,
 )
+    requires legal { IsTrue (is_legal (journal_of (B.history board.old))) }
     requires can { CanDrive (journal_of (B.history board.old)) (E.state engine.old) }
     ensures served { IsServed (journal_of (B.history board.new)) (E.state engine.new) }
     ensures made { Made E.answer_of E.problems_of (λ findings. OfEach (IsToldMost (of_box told) (of_box faults) findings) (reporters_of hub.old) (reporters_of hub.new))

@@ -4,11 +4,9 @@
 
 mod board;
 mod checks;
-mod copying;
 mod driver;
 mod driving;
 
 pub use board::{Board, CheckNoted, News, Posted};
-pub use copying::copied;
 pub use driver::Driver;
 pub use driving::drive;

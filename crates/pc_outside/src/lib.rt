@@ -4,6 +4,7 @@
 
 mod failure_plan;
 mod files;
+mod gate;
 mod memory_files;
 mod memory_sink;
 mod refused;
@@ -12,6 +13,7 @@ mod std_files;
 mod writer_sink;
 
 pub use files::{Files, ReadRefused};
+pub use gate::{Gate, HoldingGate, OpenGate};
 pub use memory_files::MemoryFiles;
 pub use memory_sink::MemorySink;
 pub use sink::{PutRefused, Sink};

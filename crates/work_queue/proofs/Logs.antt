@@ -276,9 +276,13 @@ module _ (old : Inside) (log : IsLog old) (js : List Event) (view : old.events.i
       ap (λ b. b && not (is_settled js t))
       (ap (λ x. is_some (call_of x t)) (sym view) ∙ is_accepted-accept_index old.events.items t ∙ ap is_some found.1)
 
--- a ticket that has indexes is accepted, and one that has none is not cancelled
+-- a ticket that has indexes is accepted, and one that has none is neither settled nor cancelled
 pub listed-accepted : (old : Inside) → IsLog old → (js : List Event) → old.events.items ≡ js → (t : ℕ) → t < length old.indexes.items → t < accepted js
 listed-accepted old log js view t within = let count = log.noted.count ∙ ap accepted view in omega arith
+
+pub unlisted-is_settled : (old : Inside) → IsLog old → (js : List Event) → old.events.items ≡ js → (t : ℕ) → length old.indexes.items ≤ t → is_settled js t ≡ false
+unlisted-is_settled old log js view t far =
+    is_settled-settle_index js t ∙ ap (λ x. is_some (settle_index x t)) (sym view) ∙ ap is_some (log.noted.unsettled t far)
 
 pub unlisted-is_cancelled : (old : Inside) → IsLog old → (js : List Event) → old.events.items ≡ js → (t : ℕ) → length old.indexes.items ≤ t → is_cancelled js t ≡ false
 unlisted-is_cancelled old log js view t far =

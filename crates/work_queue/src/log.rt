@@ -95,6 +95,15 @@ impl Log {
         }
     }
 
+    pub fn is_settled(&self, ticket: u64) -> bool
+        ensures { result ≡ is_settled self.now ticket }
+    {
+        match self.indexes.get(ticket as usize) {
+            Some(indexes) => indexes.settle.is_some(),
+            None => false,
+        }
+    }
+
     fn is_open(&self, ticket: usize) -> bool
         requires { ticket < accepted self.now }
         ensures unanswered { result ≡ is_open self.now ticket }

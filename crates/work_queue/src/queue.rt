@@ -181,6 +181,14 @@ impl Queue {
         self.log.is_cancelled(ticket)
     }
 
+    /// Whether the ticket is settled, as every accepted one is behind the shutdown.
+    pub fn is_settled(&self, ticket: u64) -> bool
+        ensures settled { result ≡ is_settled self.now.journal ticket }
+        ensures shut { is_closed self.now.journal ≡ true → ticket < accepted self.now.journal → result ≡ true }
+    {
+        self.log.is_settled(ticket)
+    }
+
     /// Cancels the call of an accepted ticket, unless it is settled. It takes no memory.
     pub fn cancel(&mut self, ticket: u64) -> CancelSeen
         requires { ticket < accepted self.old.journal }

@@ -7,7 +7,7 @@ use Rattle.engine_driver.proofs.driving.drive.Goals as goal
 
 pub loop-init : goal.loop-init
 loop-init g c = record {
-  drives = drives_new _ _ _ _ c.requires.can c.new-driver.ensures.next c.new-driver.ensures.opened;
+  drives = drives_new _ _ _ _ c.requires.legal c.requires.can c.new-driver.ensures.next c.new-driver.ensures.opened;
   made = made_quiet g.E.Engine.answer_of g.E.Engine.problems_of _ _ _ _ _ (OfEach-told_none _ _ _) refl (adds_none g.E.Engine.answer_of g.E.Engine.problems_of _);
 }
 

@@ -1,8 +1,9 @@
 use Rattle.std.proofs.Common.{refl, sym, ◌∙◌, ap}
+use Rattle.std.specs.List.{find}
 use Rattle.report_hub.proofs.Reports.{OfEach-told_none}
+use Rattle.ask_history.specs.Journal.{is_cancelled}
 use Rattle.ask_history.specs.declared.answers.Answer.TheVariants as answer
 use Rattle.engine_driver.specs.History.{journal_of}
-use Rattle.engine_driver.specs.Board.{first_cancelled}
 use Rattle.engine_driver.proofs.Later.{drives_later}
 use Rattle.engine_driver.proofs.Additions.{adds_later, adds_behind, made_quiet, made_behind}
 use Rattle.engine_driver.proofs.Asks.{first_dropped}
@@ -22,12 +23,12 @@ settle_ask-requires-clause-drives g c = drives_later _ _ _ _ _ c.look-news.ensur
 pub settle_ask-requires-clause-opened : goal.settle_ask-requires-clause-opened
 settle_ask-requires-clause-opened g c =
     (first_dropped (journal_of (g.B.Board.history c.look-news.new.self)) c.args.self.now.opened.items c.in-Some.ticket
-    (sym (ap (first_cancelled (journal_of (g.B.Board.history c.look-news.new.self))) c.as_slice.ensures.value) ∙ sym c.look-news.ensures.cancelled ∙ c.in-Some.is)).there
+    (sym (ap (find (is_cancelled (journal_of (g.B.Board.history c.look-news.new.self)))) c.as_slice.ensures.value) ∙ sym c.look-news.ensures.cancelled ∙ c.in-Some.is)).there
 
 pub settle_ask-requires-clause-right : goal.settle_ask-requires-clause-right
 settle_ask-requires-clause-right g c =
     found_cancelled g.E.Engine.answer_of (g.B.Board.history c.look-news.new.self) c.in-Some.ticket answer.Cancelled (first_dropped (journal_of (g.B.Board.history c.look-news.new.self)) c.args.self.now.opened.items c.in-Some.ticket
-    (sym (ap (first_cancelled (journal_of (g.B.Board.history c.look-news.new.self))) c.as_slice.ensures.value) ∙ sym c.look-news.ensures.cancelled ∙ c.in-Some.is)).cancelled
+    (sym (ap (find (is_cancelled (journal_of (g.B.Board.history c.look-news.new.self)))) c.as_slice.ensures.value) ∙ sym c.look-news.ensures.cancelled ∙ c.in-Some.is)).cancelled
 
 pub take_next-requires-clause-drives : goal.take_next-requires-clause-drives
 take_next-requires-clause-drives g c = drives_later _ _ _ _ _ c.look-news.ensures.later c.requires.drives

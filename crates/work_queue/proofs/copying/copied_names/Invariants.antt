@@ -1,5 +1,5 @@
 use Rattle.std.proofs.Common.{◌≡◌, take}
-use Rattle.engine_driver.proofs.copying.copied_names.Given as goal
+use Rattle.work_queue.proofs.copying.copied_names.Given as goal
 
 abbrev pub invariant-loop-name : goal.invariant-loop-name
 invariant-loop-name l = l.copy ≡ take l.name-index l.names

@@ -1,4 +1,4 @@
-//! Copies of calls, for a board.
+//! Copies of calls.
 ghost use Rattle.std.specs.Prelude.{◌≡◌, IfOk};
 
 use ask_history::Call;
