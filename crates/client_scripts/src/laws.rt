@@ -1,0 +1,2 @@
+/// Later.
+pub fn law_clients_play_their_scripts() {}
