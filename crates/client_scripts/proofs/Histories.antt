@@ -58,15 +58,13 @@ ticket_of-append (event ∷ front) back c k =
 -- a tag by which a client has no accepted call
 pub no_ticket : (c k : ℕ) (journal : List Event) → list_any (λ (call : ℕ × Call). call.0 == k) (calls_of c journal) ≡ false → ticket_of journal c k ≡ None
 no_ticket c k [] h = refl
-no_ticket c k (Accept ticket client tag call ∷ journal) h = by (client == c) h
+no_ticket c k (Accept ticket client tag call ∷ journal) h = by (client == c) (λ e. no_ticket c k journal e) h
   where
-    rest : list_any (λ (call : ℕ × Call). call.0 == k) (calls_of c journal) ≡ false → ticket_of journal c k ≡ None
-    rest e = no_ticket c k journal e
-
-    by : (b : Bool) → list_any (λ (call : ℕ × Call). call.0 == k) ((if b then (tag, call) ∷ [] else []) ++ calls_of c journal) ≡ false
+    by : (b : Bool) → (list_any (λ (call : ℕ × Call). call.0 == k) (calls_of c journal) ≡ false → ticket_of journal c k ≡ None)
+        → list_any (λ (call : ℕ × Call). call.0 == k) ((if b then (tag, call) ∷ [] else []) ++ calls_of c journal) ≡ false
         → option_or (if b && (tag == k) then Some ticket else None) (ticket_of journal c k) ≡ None
-    by true e = ap (λ t. option_or (if t then Some ticket else None) (ticket_of journal c k)) (or_left (tag == k) _ e) ∙ rest (or_right (tag == k) _ e)
-    by false e = rest e
+    by true rest e = ap (λ t. option_or (if t then Some ticket else None) (ticket_of journal c k)) (or_left (tag == k) _ e) ∙ rest (or_right (tag == k) _ e)
+    by false rest e = rest e
 no_ticket c k (Cancel ticket ∷ journal) h = no_ticket c k journal h
 no_ticket c k (Close ∷ journal) h = no_ticket c k journal h
 no_ticket c k (Settle ticket mark ∷ journal) h = no_ticket c k journal h
@@ -214,34 +212,25 @@ stands_more c old more above silent h = record { calls = more_calls c old more s
 
 pub more_answer : (old more : List Entry) (t : ℕ) (found : Answer) → answer_of old t ≡ Some found → answer_of (old ++ more) t ≡ Some found
 more_answer [] more t found h = cc
-more_answer (entry ∷ old) more t found h = by (settles t entry.event) h
+more_answer (entry ∷ old) more t found h = by (settles t entry.event) (λ e. more_answer old more t found e) h
   where
-    further : answer_of old t ≡ Some found → answer_of (old ++ more) t ≡ Some found
-    further e = more_answer old more t found e
-
-    by : (b : Bool) → (if b then entry.answer else answer_of old t) ≡ Some found → (if b then entry.answer else answer_of (old ++ more) t) ≡ Some found
-    by true e = e
-    by false e = further e
+    by : (b : Bool) → (answer_of old t ≡ Some found → answer_of (old ++ more) t ≡ Some found) → (if b then entry.answer else answer_of old t) ≡ Some found → (if b then entry.answer else answer_of (old ++ more) t) ≡ Some found
+    by true further e = e
+    by false further e = further e
 
 pub more_taker : (old more : List Entry) (t n : ℕ) → taker_of old t ≡ Some n → taker_of (old ++ more) t ≡ Some n
 more_taker [] more t n h = cc
-more_taker (entry ∷ old) more t n h = by (is_some (call_under t entry.event)) h
+more_taker (entry ∷ old) more t n h = by (is_some (call_under t entry.event)) (λ e. more_taker old more t n e) h
   where
-    further : taker_of old t ≡ Some n → taker_of (old ++ more) t ≡ Some n
-    further e = more_taker old more t n e
-
-    by : (b : Bool) → (if b then Some entry.author else taker_of old t) ≡ Some n → (if b then Some entry.author else taker_of (old ++ more) t) ≡ Some n
-    by true e = e
-    by false e = further e
+    by : (b : Bool) → (taker_of old t ≡ Some n → taker_of (old ++ more) t ≡ Some n) → (if b then Some entry.author else taker_of old t) ≡ Some n → (if b then Some entry.author else taker_of (old ++ more) t) ≡ Some n
+    by true further e = e
+    by false further e = further e
 
 -- what has an answer is settled
 pub answer_settled : (history : List Entry) (t : ℕ) (found : Answer) → answer_of history t ≡ Some found → is_settled (journal_of history) t ≡ true
 answer_settled [] t found h = cc
-answer_settled (entry ∷ history) t found h = by (settles t entry.event) h
+answer_settled (entry ∷ history) t found h = by (settles t entry.event) (λ e. answer_settled history t found e) h
   where
-    further : answer_of history t ≡ Some found → is_settled (journal_of history) t ≡ true
-    further e = answer_settled history t found e
-
-    by : (b : Bool) → (if b then entry.answer else answer_of history t) ≡ Some found → (b || is_settled (journal_of history) t) ≡ true
-    by true e = refl
-    by false e = further e
+    by : (b : Bool) → (answer_of history t ≡ Some found → is_settled (journal_of history) t ≡ true) → (if b then entry.answer else answer_of history t) ≡ Some found → (b || is_settled (journal_of history) t) ≡ true
+    by true further e = refl
+    by false further e = further e

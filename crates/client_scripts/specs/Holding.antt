@@ -1,5 +1,5 @@
 -- What holds of a client between two lines of its script.
-use Rattle.std.specs.Prelude.{◌≡◌, ◌⊎◌, ⊤, ℕ, ◌+◌, ◌<◌, true, IsTrue, List, [], ◌∷◌, ◌++◌, length, slice_get, Option, Some, None}
+use Rattle.std.specs.Prelude.{◌≡◌, ◌⊎◌, ⊤, ℕ, ◌+◌, ◌<◌, Bool, true, false, IsTrue, List, [], ◌∷◌, ◌++◌, length, slice_get, Option, Some, None}
 use Rattle.ask_history.specs.Journal.{accepted, ticket_of, is_closed, is_settled}
 use Rattle.ask_history.specs.Legal.{is_legal}
 use Rattle.ask_history.specs.declared.answers.Answer.{Answer}
@@ -78,3 +78,18 @@ pub record ReceivesAt (old new : PassState) (index : ℕ) : Type 0 where
   pub is : ticket_at old index ≡ Some ticket
   pub rests : Rests old (record new { got = old.got })
   pub settled : is_settled (signed_journal new.history) ticket ≡ true
+
+-- What a client leaves that was stopped: each entry that it made is that of a line.
+pub record HasStopped (c : ℕ) (lines : List Line) (pass : PassState) : Type 0 where
+  pub named : pass.number ≡ c
+  pub runs : Runs c lines pass.history
+
+-- ---- answers
+
+abbrev pub is_had : {T : Type 0} → Held T → Bool
+is_had (Due ticket) = false
+is_had (Had found) = true
+
+abbrev pub had_answer : {T : Type 0} → Held T → Option Answer
+had_answer (Due ticket) = None
+had_answer (Had found) = Some found
