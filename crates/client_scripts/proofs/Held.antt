@@ -106,12 +106,13 @@ module _ {T : Type 0} (number_of : T → ℕ) where
   holds_handed : (old : PassState) (more : List Entry) (ticket : ℕ) (o : Option ℕ) (one : Held T) → (o ≡ Some ticket → ⊥) → Holds number_of old o one
       → Holds number_of (handed old more ticket) o one
   holds_handed old more ticket None one apart h = h
-  holds_handed old more ticket (Some t) (Due other) apart h =
-      (h.0,
-      record {
-        mine = more_taker old.history more t old.number h.1.mine;
-        fresh = other_has old.got ticket t (λ e. apart (ap Some (sym e))) h.1.fresh;
-      })
+  holds_handed old more ticket (Some t) (Due other) apart h = (
+    h.0,
+    record {
+      mine = more_taker old.history more t old.number h.1.mine;
+      fresh = other_has old.got ticket t (λ e. apart (ap Some (sym e))) h.1.fresh;
+    },
+  )
   holds_handed old more ticket (Some t) (Had answer) apart h = more_answer old.history more t answer h
 
   pub holds_due : (pass : PassState) (o : Option ℕ) (ticket : T) → Holds number_of pass o (Due ticket) → (o ≡ Some (number_of ticket)) × IsDue pass (number_of ticket)
@@ -123,8 +124,8 @@ module _ {T : Type 0} (number_of : T → ℕ) where
   holds_had pass (Some t) found h = (t, refl, h)
 
   module _ (old : PassState) (more : List Entry) (ticket : T) (found : Answer) (front back : List (Held T)) (silent : Silent old.number more)
-    (legal : IsTrue (is_legal (journal_of (old.history ++ more)))) (h : IsHolding number_of old (front ++ Due ticket ∷ back))
-    (answered : answer_of (old.history ++ more) (number_of ticket) ≡ Some found) where
+      (legal : IsTrue (is_legal (journal_of (old.history ++ more)))) (h : IsHolding number_of old (front ++ Due ticket ∷ back))
+      (answered : answer_of (old.history ++ more) (number_of ticket) ≡ Some found) where
     abbrev now : PassState
     now = handed old more (number_of ticket)
 
@@ -198,7 +199,7 @@ module _ {T : Type 0} (number_of : T → ℕ) where
     then_ = seeing old (old.history ++ entry ∷ [])
 
     module _ (next : t ≡ accepted (journal_of old.history)) (number : tag ≡ length held + 1) (none : ticket_of (signed_journal old.history) old.number tag ≡ None)
-      (legal : IsTrue (is_legal (journal_of (old.history ++ entry ∷ [])))) (is : number_of ticket ≡ t) (due : IsDue then_ t) where
+        (legal : IsTrue (is_legal (journal_of (old.history ++ entry ∷ [])))) (is : number_of ticket ≡ t) (due : IsDue then_ t) where
       own : (k : ℕ) → (k == k) ≡ true
       own k = grind (arith, nat_tests)
 

@@ -169,7 +169,7 @@ own : (t : ℕ) → (t == t) ≡ true
 own t = grind (arith, nat_tests)
 
 module _ {T : Type 0} (number_of : T → ℕ) (lines above below : List Line) (line : Line) (split : lines ≡ above ++ line ∷ below) (old : PassState) (client : Client T)
-  (playing : IsPlaying number_of old.number lines above old client) where
+    (playing : IsPlaying number_of old.number lines above old client) where
   abbrev past : List Line
   past = above ++ line ∷ []
 
@@ -227,9 +227,10 @@ module _ {T : Type 0} (number_of : T → ℕ) (lines above below : List Line) (l
       by false e w =
           let stands = stands_of old.number closes.before above e (later_behind old.number old.history closes.before above w.later playing.behind) in
           let entries : List Entry = map (closed_by old.number) (open_tickets (journal_of closes.before)) in
-          playing_wrote new closes.before (made_by old.number Close ∷ entries) client w (silent_settlings old.number (open_tickets (journal_of closes.before)))
-          ((λ mine. at_line order.Close (signed_journal closes.before) is stands),
-          right_settlings old.number lines (closes.before ++ made_by old.number Close ∷ []) (open_tickets (journal_of closes.before)) (closed_here closes.before []))
+          playing_wrote new closes.before (made_by old.number Close ∷ entries) client w (silent_settlings old.number (open_tickets (journal_of closes.before))) (
+            (λ mine. at_line order.Close (signed_journal closes.before) is stands),
+            right_settlings old.number lines (closes.before ++ made_by old.number Close ∷ []) (open_tickets (journal_of closes.before)) (closed_here closes.before []),
+          )
           refl (next_same order.Close is refl)
           (inl (subst (λ (p : PassState). is_closed (journal_of p.history) ≡ true) (sym w.written) (closed_here closes.before entries)))
 
@@ -256,9 +257,9 @@ module _ {T : Type 0} (number_of : T → ℕ) (lines above below : List Line) (l
       let quiet : PassState = record new { got = old.got } in
       let more = rests_history old quiet received.rests in
       let there : ticket_of (signed_journal new.history) old.number k ≡ Some received.ticket =
-          subst (λ n. ticket_of (signed_journal new.history) old.number n ≡ Some received.ticket) at
-          (subst (λ es. ticket_of (signed_journal es) old.number (index + 1) ≡ Some received.ticket) (sym more.1)
-          (ticket_stays old.number old.history more.0 (index + 1) received.ticket received.is)) in
+      subst (λ n. ticket_of (signed_journal new.history) old.number n ≡ Some received.ticket) at
+      (subst (λ es. ticket_of (signed_journal es) old.number (index + 1) ≡ Some received.ticket) (sym more.1)
+      (ticket_stays old.number old.history more.0 (index + 1) received.ticket received.is)) in
       record {
         named = rests_number old quiet received.rests;
         holding = holding;
@@ -358,16 +359,16 @@ module _ {T : Type 0} (number_of : T → ℕ) (lines above below : List Line) (l
           let entry : Entry = made_by old.number (Accept (number_of ticket) old.number client.next call) in
           let mid : PassState = seeing old before in
           let holds : IsHolding number_of mid client.held.items =
-              subst (λ es. IsHolding number_of (seeing old es) client.held.items) (sym w.later.behind)
-              (holding_more number_of old w.later.others client.held.items (none_theirs old.number w.later.others w.later.theirs)
-              (subst (λ es. IsTrue (is_legal (journal_of es))) w.later.behind w.later.legal) playing.holding) in
+          subst (λ es. IsHolding number_of (seeing old es) client.held.items) (sym w.later.behind)
+          (holding_more number_of old w.later.others client.held.items (none_theirs old.number w.later.others w.later.theirs)
+          (subst (λ es. IsTrue (is_legal (journal_of es))) w.later.behind w.later.legal) playing.holding) in
           let legal : IsTrue (is_legal (journal_of (before ++ entry ∷ []))) = subst (λ (p : PassState). IsTrue (is_legal (journal_of p.history))) w.written w.legal in
           let open_ = unclosed before entry legal (λ journal may. no_accept journal (number_of ticket) old.number client.next call may) in
           let stands = stands_of old.number before above open_ (later_behind old.number old.history before above w.later playing.behind) in
           let number : client.next ≡ length client.held.items + 1 =
-              let a = playing.counts in let b = counted 1 above in let c = holds.counted in let d = ap length stands.calls in omega arith in
+          let a = playing.counts in let b = counted 1 above in let c = holds.counted in let d = ap length stands.calls in omega arith in
           let none : ticket_of (signed_journal before) old.number client.next ≡ None =
-              subst (λ n. ticket_of (signed_journal before) old.number n ≡ None) (sym playing.counts) (next_unaccepted old.number (signed_journal before) above stands.calls) in
+          subst (λ n. ticket_of (signed_journal before) old.number n ≡ None) (sym playing.counts) (next_unaccepted old.number (signed_journal before) above stands.calls) in
           let due = subst (λ p. IsDue p (number_of ticket)) w.written accepts.due in
           let holding = holding_accepted number_of mid ticket (number_of ticket) client.next call client.held.items holds accepts.next number none legal refl due in
           let calls = calls_then number_of mid ticket (number_of ticket) client.next call client.held.items holds accepts.next number none legal refl due in

@@ -48,7 +48,9 @@ split_of (entry ∷ history) (first ∷ front) back event h =
     let tail : journal_of history ≡ front ++ event ∷ back = cc in
     let s = split_of history front back event tail in
     record {
-      before = entry ∷ s.before; entry = s.entry; behind = s.behind;
+      before = entry ∷ s.before;
+      entry = s.entry;
+      behind = s.behind;
       whole = ap (λ (es : List Entry). entry ∷ es) s.whole;
       is_front = λ i. same i ∷ s.is_front i;
       is_event = s.is_event;
@@ -297,8 +299,8 @@ module _ (scripts : List Script) (history : List Entry) (seen : ℕ → List Ent
         by s (Clients other at right) =
             let r = subst (IsRight s.entry.author other.lines s.before) s.is_event right in
             let theirs : ticket_of journal s.entry.author r.0 ≡ Some t =
-                subst (λ js. ticket_of js s.entry.author r.0 ≡ Some t) same_all
-                (subst (λ es. ticket_of (signed_journal es) s.entry.author r.0 ≡ Some t) (sym s.whole) (ticket_stays s.entry.author s.before (s.entry ∷ s.behind) r.0 t r.1)) in
+            subst (λ js. ticket_of js s.entry.author r.0 ≡ Some t) same_all
+            (subst (λ es. ticket_of (signed_journal es) s.entry.author r.0 ≡ Some t) (sym s.whole) (ticket_stays s.entry.author s.before (s.entry ∷ s.behind) r.0 t r.1)) in
             let one = one_owner journal c tag s.entry.author r.0 t legal mine theirs in
             subst (λ n. IsAtLine c script.lines front (order.Cancel n)) (sym one.1)
             (line_of c s.entry.author script other s.before s.behind s.entry front (order.Cancel r.0) s.whole s.is_front one.0 (one_script c s.entry.author script other there one.0 at) r.2)
@@ -314,7 +316,9 @@ module _ (scripts : List Script) (history : List Entry) (seen : ℕ → List Ent
 
     silent_front : (before : List Entry) (entry : Entry) → Silent c (entry ∷ []) → Front before → Front (before ++ entry ∷ [])
     silent_front before entry silent f = record {
-      front = f.front; back = f.back; begins = f.begins;
+      front = f.front;
+      back = f.back;
+      begins = f.begins;
       calls = more_calls c before (entry ∷ []) silent ∙ f.calls;
       unclosed = f.unclosed;
     }
@@ -439,15 +443,15 @@ module _ (scripts : List Script) (history : List Entry) (seen : ℕ → List Ent
   reason front back h =
       let s = split_of history front back Close h in
       by s (maker s.before s.behind s.entry s.whole)
-        (no_close (journal_of s.before) (subst (λ e. IsTrue (may_follow (journal_of s.before) e)) s.is_event (may_here s.before s.behind s.entry s.whole)))
+      (no_close (journal_of s.before) (subst (λ e. IsTrue (may_follow (journal_of s.before) e)) s.is_event (may_here s.before s.behind s.entry s.whole)))
     where
       by : (s : Split history front Close) → Maker s.before s.entry → is_closed (journal_of s.before) ≡ false → Reason front
       by s (Clients script there right) open_ =
           let line : IsAtLine s.entry.author script.lines (signed_journal s.before) order.Close = subst (IsRight s.entry.author script.lines s.before) s.is_event right in
           let told : IsAtLine s.entry.author script.lines front order.Close =
-              line_of s.entry.author s.entry.author script script s.before s.behind s.entry front order.Close s.whole s.is_front refl refl line in
+          line_of s.entry.author s.entry.author script script s.before s.behind s.entry front order.Close s.whole s.is_front refl refl line in
           let closes : has_close script.lines ≡ true =
-              ap has_close line.split ∙ any_split (λ (l : Line). is_close_line l.order) line.above line.below line.line (ap is_close_line line.orders) in
+          ap has_close line.split ∙ any_split (λ (l : Line). is_close_line l.order) line.above line.below line.line (ap is_close_line line.orders) in
           record {
             finished = λ none. absurd (true≢false (sym (any_there (λ (one : Script). has_close one.lines) scripts s.entry.author script there closes) ∙ none));
             closer = λ some. record {
@@ -461,7 +465,7 @@ module _ (scripts : List Script) (history : List Entry) (seen : ℕ → List Ent
       by s (Others none servant) open_ =
           let begins : (c : ℕ) (script : Script) → slice_get scripts c ≡ Some script → IsPrefix (seen c) s.before = subst (IsServants scripts seen s.before) s.is_event servant in
           let ended : (c : ℕ) (script : Script) → slice_get scripts c ≡ Some script → Stands c (signed_journal (seen c)) script.lines × (is_finished c (signed_journal (seen c)) script.lines ≡ true) =
-              λ c script there. unclosed_ended c script.lines (seen c) (played.clients c script there).ended (prefix_open (seen c) s.before (begins c script there) open_) in
+          λ c script there. unclosed_ended c script.lines (seen c) (played.clients c script there).ended (prefix_open (seen c) s.before (begins c script there) open_) in
           record {
             finished = λ none c script there.
                 let more = begins c script there in

@@ -19,9 +19,10 @@ right-append c lines before (entry ∷ front) back h k =
 -- others make nothing of the client
 pub right_theirs : (c : ℕ) (lines : List Line) (before others : List Entry) → has_entry_of c others ≡ false → AreRight c lines before others
 right_theirs c lines before [] h = tt
-right_theirs c lines before (entry ∷ others) h =
-    ((λ mine. absurd (true≢false (sym (eq-eqb entry.author c mine) ∙ or_left (entry.author == c) _ h))),
-    right_theirs c lines (before ++ entry ∷ []) others (or_right (entry.author == c) _ h))
+right_theirs c lines before (entry ∷ others) h = (
+  (λ mine. absurd (true≢false (sym (eq-eqb entry.author c mine) ∙ or_left (entry.author == c) _ h))),
+  right_theirs c lines (before ++ entry ∷ []) others (or_right (entry.author == c) _ h),
+)
 
 pub runs_more : (c : ℕ) (lines : List Line) (history more : List Entry) → Runs c lines history → AreRight c lines history more → Runs c lines (history ++ more)
 runs_more c lines history more h k = right-append c lines [] history more h k

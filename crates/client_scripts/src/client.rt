@@ -56,7 +56,11 @@ fn push_had<T: Drop>(answers: &mut Row<Answer>, one: Held<T>) -> Result<(), NoMe
 
 impl<T: Drop> Client<T> {
     // Posts the call of the next call line.
-    fn call<P: ClientPass<Ticket = T>>(&mut self, pass: &mut P, call: &Call) -> Result<(), PostRefused>
+    fn call<P: ClientPass<Ticket = T>>(
+        &mut self,
+        pass: &mut P,
+        call: &Call,
+    ) -> Result<(), PostRefused>
         requires names { has_file_names call.now ≡ true }
         requires few { length (reloaded_by call.now) < 2 ^ 32 }
         requires fits { self.old.next + 1 < 2 ^ 64 }
@@ -116,7 +120,12 @@ impl<T: Drop> Client<T> {
     }
 
     // Plays a line.
-    fn step<P: ClientPass<Ticket = T>>(&mut self, pass: &mut P, lines: &[Line], at: usize) -> Result<(), PostRefused>
+    fn step<P: ClientPass<Ticket = T>>(
+        &mut self,
+        pass: &mut P,
+        lines: &[Line],
+        at: usize,
+    ) -> Result<(), PostRefused>
         requires there { at < length lines.now }
         requires short { length lines.now < 2 ^ 63 }
         requires meant { AreMeant lines.now }
@@ -176,7 +185,11 @@ impl<T: Drop> Client<T> {
 
 /// Plays a script to its end, and gives the answers of its accepted calls in order. It stops at the first call that is refused
 /// for another reason than that the session is shut down, and tells that reason.
-pub fn play<P: ClientPass>(alloc: Global, pass: &mut P, script: &Script) -> Result<Row<Answer>, PostRefused>
+pub fn play<P: ClientPass>(
+    alloc: Global,
+    pass: &mut P,
+    script: &Script,
+) -> Result<Row<Answer>, PostRefused>
     requires meant { AreMeant script.now.lines }
     requires may { AllMayPost script.now.lines }
     requires fresh { has_entry_of (P.state pass.old).number (P.state pass.old).history ≡ false }
