@@ -6,3 +6,4 @@ pub mod Playing
 pub mod Steps
 pub mod Finished
 pub mod Whole
+pub mod Below

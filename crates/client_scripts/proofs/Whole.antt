@@ -270,24 +270,30 @@ module _ (scripts : List Script) (history : List Entry) (seen : ℕ → List Ent
       sym equal
 
   -- a line of a client, told of the journal
-  line_of : (c d : ℕ) (script other : Script) (before behind : List Entry) (entry : Entry) (front : List Event) (meant : Order) → history ≡ before ++ entry ∷ behind → journal_of before ≡ front
+  abbrev line_of : (c d : ℕ) (script other : Script) (before behind : List Entry) (entry : Entry) (front : List Event) (meant : Order) → history ≡ before ++ entry ∷ behind → journal_of before ≡ front
       → c ≡ d → other ≡ script → IsAtLine d other.lines (signed_journal before) meant → IsAtLine c script.lines front meant
-  line_of c d script other before behind entry front meant whole is same equal line =
-      subst (λ js. IsAtLine c script.lines js meant) (same_front before (entry ∷ behind) whole ∙ is)
-      (subst (λ (s : Script). IsAtLine c s.lines (signed_journal before) meant) equal (subst (λ n. IsAtLine n other.lines (signed_journal before) meant) (sym same) line))
+  line_of c d script other before behind entry front meant whole is same equal line = record {
+    above = line.above;
+    line = line.line;
+    below = line.below;
+    split = ap (λ (s : Script). s.lines) (sym equal) ∙ line.split;
+    orders = line.orders;
+    stands = subst (λ n. Stands n front line.above) (sym same) (subst (λ js. Stands d js line.above) (same_front before (entry ∷ behind) whole ∙ is) line.stands);
+  }
 
   -- ---- one client
 
   module _ (c : ℕ) (script : Script) (there : slice_get scripts c ≡ Some script) where
-    accepts : (front back : List Event) (t tag : ℕ) (call : Call) → journal ≡ front ++ Accept t c tag call ∷ back → IsAtLine c script.lines front (order.Call call)
+    accepts : (front back : List Event) (t tag : ℕ) (call : Call) → journal ≡ front ++ Accept t c tag call ∷ back
+        → (line : IsAtLine c script.lines front (order.Call call)) × (tag ≡ next_number 1 line.above)
     accepts front back t tag call h =
         let s = split_of history front back (Accept t c tag call) h in
         by s (maker s.before s.behind s.entry s.whole)
       where
-        by : (s : Split history front (Accept t c tag call)) → Maker s.before s.entry → IsAtLine c script.lines front (order.Call call)
+        by : (s : Split history front (Accept t c tag call)) → Maker s.before s.entry → (line : IsAtLine c script.lines front (order.Call call)) × (tag ≡ next_number 1 line.above)
         by s (Clients other at right) =
             let r = subst (IsRight s.entry.author other.lines s.before) s.is_event right in
-            line_of c s.entry.author script other s.before s.behind s.entry front (order.Call call) s.whole s.is_front r.0 (one_script c s.entry.author script other there r.0 at) r.1.0
+            (line_of c s.entry.author script other s.before s.behind s.entry front (order.Call call) s.whole s.is_front r.0 (one_script c s.entry.author script other there r.0 at) r.1.0, r.1.1)
         by s (Others none servant) = absurd (subst (IsServants scripts seen s.before) s.is_event servant)
 
     cancels : (front back : List Event) (t tag : ℕ) → journal ≡ front ++ Cancel t ∷ back → ticket_of journal c tag ≡ Some t → IsAtLine c script.lines front (order.Cancel tag)

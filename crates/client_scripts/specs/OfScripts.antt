@@ -8,7 +8,7 @@ use Rattle.ask_history.specs.declared.events.Event.TheVariants.{Accept, Cancel, 
 use Rattle.ask_history.specs.declared.script.Order.TheVariants as order
 use Rattle.ask_history.specs.declared.script.Line.{Line}
 use Rattle.ask_history.specs.declared.script.Script.{Script}
-use Rattle.client_scripts.specs.Lines.{call_lines, has_close}
+use Rattle.client_scripts.specs.Lines.{call_lines, next_number, has_close}
 use Rattle.client_scripts.specs.Clients.{calls_of, is_answered, IsAtLine}
 
 -- What a journal has of a client with this script.
@@ -22,7 +22,8 @@ pub record OfScript (c : ℕ) (lines : List Line) (journal : List Event) : Type 
   pub unclosed : has_close front ≡ false
   -- Each is accepted only where what the lines above it wait for has come: the call of each `wait` is settled, and that of
   -- each `cancel` is cancelled or settled.
-  pub accepts : (before behind : List Event) (t tag : ℕ) (call : Call) → journal ≡ before ++ Accept t c tag call ∷ behind → IsAtLine c lines before (order.Call call)
+  pub accepts : (before behind : List Event) (t tag : ℕ) (call : Call) → journal ≡ before ++ Accept t c tag call ∷ behind
+      → (line : IsAtLine c lines before (order.Call call)) × (tag ≡ next_number 1 line.above)
   -- A call of the client is cancelled only by a `cancel` of its script, where just the calls of the lines above that line
   -- are accepted.
   pub cancels : (before behind : List Event) (t tag : ℕ) → journal ≡ before ++ Cancel t ∷ behind → ticket_of journal c tag ≡ Some t

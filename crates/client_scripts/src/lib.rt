@@ -6,5 +6,5 @@ mod laws;
 mod pass;
 
 pub use client::play;
-pub use laws::law_clients_play_their_scripts;
+pub use laws::{law_clients_play_their_scripts, law_waits_come_first};
 pub use pass::ClientPass;
