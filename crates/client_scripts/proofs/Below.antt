@@ -1,6 +1,6 @@
 -- What stands before the calls of the lines below a line.
-use Rattle.std.proofs.Common.{◌≡◌, ◌⊎◌, inl, inr, ℕ, ◌+◌, ◌<◌, ◌≤◌, Bool, true, false, true≢false, ◌||◌, ◌&&◌, List, [], ◌∷◌, ◌++◌, Option, Some, None, refl, sym, ap, ◌∙◌, subst, arith}
-use Rattle.std.specs.List.{list_any, list_all}
+use Rattle.std.proofs.Common.{◌≡◌, ℕ, ◌+◌, ◌≤◌, Bool, true, false, ◌||◌, List, [], ◌∷◌, ◌++◌, Option, Some, None, refl, sym, ap, ◌∙◌, subst, arith}
+use Rattle.std.specs.List.{list_all}
 use Rattle.std.proofs.lemmas.Bool.{and_parts}
 use Rattle.std.proofs.lemmas.List.Folds.{list_any-append}
 use Rattle.ask_history.specs.Journal.{ticket_of, is_settled, is_cancelled, cancels}
@@ -12,7 +12,7 @@ use Rattle.ask_history.specs.declared.script.Order.{Order}
 use Rattle.ask_history.specs.declared.script.Order.TheVariants as order
 use Rattle.ask_history.specs.declared.script.Line.{Line}
 use Rattle.client_scripts.specs.Lines.{next_number}
-use Rattle.client_scripts.specs.Clients.{passes, is_answered, is_ended, has_come, IsAtLine}
+use Rattle.client_scripts.specs.Clients.{passes, is_answered, is_ended, has_come}
 use Rattle.client_scripts.specs.OfScripts.{OfScript}
 use Rattle.std.specs.Option.{option_or}
 use Rattle.client_scripts.proofs.Histories.{ticket_of-append}

@@ -1,23 +1,21 @@
 -- A client that has all its answers.
-use Rattle.std.proofs.Common.{◌≡◌, ◌⊎◌, inl, inr, ℕ, zero, suc, ◌+◌, ◌-◌, ◌<◌, ◌≤◌, Bool, true, false, true≢false, ◌&&◌, IsTrue, List, [], ◌∷◌, ◌++◌, length, Option, Some, None, refl, sym, ap, ◌∙◌, subst, arith}
+use Rattle.std.proofs.Common.{◌≡◌, inl, inr, ℕ, zero, suc, ◌+◌, ◌-◌, ◌<◌, ◌≤◌, true, false, true≢false, IsTrue, List, [], ◌∷◌, length, Option, Some, None, refl, sym, ap, ◌∙◌, subst, arith}
 use Rattle.std.specs.List.{slice_get, list_all, filter_map}
 use Rattle.std.specs.Option.{option_and_then}
-use Rattle.std.proofs.lemmas.Bool.{and_parts}
 use Rattle.std.proofs.Common.{take}
 use Rattle.std.proofs.lemmas.List.{take_all}
-use Rattle.ask_history.specs.Journal.{ticket_of, is_closed, is_settled}
+use Rattle.ask_history.specs.Journal.{is_settled}
 use Rattle.ask_history.specs.declared.answers.Answer.{Answer}
 use Rattle.ask_history.specs.declared.script.Line.{Line}
 use Rattle.client_scripts.specs.declared.client.Client.{Client}
 use Rattle.client_scripts.specs.declared.client.Held.{Held}
 use Rattle.client_scripts.specs.declared.client.Held.TheVariants.{Due, Had}
-use Rattle.client_scripts.specs.Lines.{call_lines, next_number}
-use Rattle.client_scripts.specs.Clients.{calls_of, passes, is_answered, Stands}
-use Rattle.client_scripts.specs.OfScripts.{is_finished}
-use Rattle.client_scripts.specs.History.{Entry, journal_of, signed_journal, answer_of, has_entry_of}
+use Rattle.client_scripts.specs.Lines.{next_number}
+use Rattle.client_scripts.specs.Clients.{passes, is_answered}
+use Rattle.client_scripts.specs.History.{journal_of, signed_journal, answer_of, has_entry_of}
 use Rattle.client_scripts.specs.Passes.{PassState}
 use Rattle.client_scripts.specs.Runs.{Runs, HasEnded, AreAnswers}
-use Rattle.client_scripts.specs.Holding.{ticket_at, Holds, IsHolding, IsPlaying, Rests, HasStopped, is_had, had_answer}
+use Rattle.client_scripts.specs.Holding.{ticket_at, IsHolding, IsPlaying, Rests, HasStopped, is_had, had_answer}
 use Rattle.client_scripts.proofs.Histories.{answer_settled, signed_settled, none_theirs, no_tickets}
 use Rattle.client_scripts.proofs.Numbers.{counted, all_numbers}
 use Rattle.client_scripts.proofs.Held.{holds_had}

@@ -1,8 +1,8 @@
 -- What a client holds of its calls, step by step.
-use Rattle.std.proofs.Common.{◌≡◌, ◌⊎◌, inl, inr, ℕ, zero, suc, ◌+◌, ◌<◌, ◌≤◌, Bool, true, false, true≢false, ◌||◌, ◌&&◌, ◌==◌, if◌then◌else◌, IsTrue, List, [], ◌∷◌, ◌++◌, length, Option, Some, None, refl, sym, ap, ◌∙◌, subst, arith, append_assoc, append-nil}
+use Rattle.std.proofs.Common.{◌≡◌, ◌⊎◌, inl, inr, ℕ, zero, suc, ◌+◌, ◌<◌, Bool, true, false, ◌||◌, ◌&&◌, ◌==◌, if◌then◌else◌, IsTrue, List, [], ◌∷◌, ◌++◌, length, Option, Some, None, refl, sym, ap, ◌∙◌, subst, arith, append_assoc, append-nil}
 use Rattle.std.specs.List.{slice_get}
 use Rattle.std.specs.Option.{option_or}
-use Rattle.std.proofs.lemmas.Bool.{eqb-true, eq-eqb, and_parts}
+use Rattle.std.proofs.lemmas.Bool.{eqb-true, eq-eqb}
 use Rattle.std.proofs.lemmas.Bool.Decides.{nat_tests}
 use Rattle.std.proofs.lemmas.List.{length-append, length-take-le, set-get_or, set_split, set-set}
 use Rattle.std.proofs.lemmas.Option.{slice_get-get_or}
@@ -17,9 +17,9 @@ use Rattle.client_scripts.specs.declared.client.Held.{Held}
 use Rattle.client_scripts.specs.declared.client.Held.TheVariants.{Due, Had}
 use Rattle.client_scripts.specs.Clients.{calls_of}
 use Rattle.client_scripts.specs.History.{Entry, journal_of, signed_journal, answer_of}
-use Rattle.client_scripts.specs.Passes.{PassState, seeing, has, made_by, Writes, IsDue, Receives}
+use Rattle.client_scripts.specs.Passes.{PassState, seeing, has, made_by, Writes, IsDue}
 use Rattle.client_scripts.specs.Holding.{ticket_at, Holds, IsHolding, CanReceive, Gives, CancelsAt, ReceivesAt}
-use Rattle.client_scripts.proofs.Histories.{or_left, journal_of-append, none_theirs, Silent, silent-append, more_calls, more_ticket, more_accepted, more_answer, more_taker, ticket_stays, signed_settled, answer_settled, signed-append, calls_of-append, ticket_of-append}
+use Rattle.client_scripts.proofs.Histories.{journal_of-append, none_theirs, Silent, silent-append, more_calls, more_ticket, more_accepted, more_answer, more_taker, ticket_stays, signed_settled, answer_settled, signed-append, calls_of-append, ticket_of-append}
 
 -- what a pass has seen behind what it wrote
 pub writes_more : (old new : PassState) (before entries : List Entry) → (w : Writes old before entries new) → new ≡ seeing old (old.history ++ (w.later.others ++ entries))

@@ -1,37 +1,33 @@
 -- A client plays its script, line by line.
-use Rattle.std.proofs.Common.{◌≡◌, ◌⊎◌, inl, inr, ℕ, suc, ◌+◌, ◌<◌, ◌≤◌, Bool, true, false, true≢false, not, ◌||◌, ◌&&◌, ◌==◌, if◌then◌else◌, nat_lt, IsTrue, List, [], ◌∷◌, ◌++◌, map, take, drop, length, Option, Some, None, refl, sym, ap, ◌∙◌, subst, arith, append_assoc, append-nil}
-use Rattle.std.specs.List.{list_any, list_all}
+use Rattle.std.proofs.Common.{◌≡◌, ◌⊎◌, inl, inr, ℕ, ◌+◌, ◌<◌, Bool, true, false, true≢false, not, ◌||◌, ◌==◌, if◌then◌else◌, IsTrue, List, [], ◌∷◌, ◌++◌, map, length, Some, None, refl, sym, ap, ◌∙◌, subst, arith, append_assoc, append-nil}
+use Rattle.std.specs.List.{list_all}
 use Rattle.std.proofs.lemmas.Bool.{and_parts, and_from}
 use Rattle.std.proofs.lemmas.Bool.Decides.{nat_tests}
 use Rattle.std.proofs.lemmas.List.Folds.{list_all-append, list_any-append}
 use Rattle.ask_history.specs.Closing.{open_tickets}
-use Rattle.ask_history.specs.Journal.{accepted, ticket_of, is_closed, is_close, is_settled, settles, is_cancelled, cancels}
+use Rattle.ask_history.specs.Journal.{accepted, ticket_of, is_closed, is_close, is_settled, is_cancelled, cancels}
 use Rattle.ask_history.specs.Legal.{is_legal, may_follow}
 use Rattle.ask_history.specs.Nested.{number_after}
 use Rattle.ask_history.specs.declared.calls.Call.{Call}
 use Rattle.ask_history.specs.declared.events.Event.{Event}
-use Rattle.ask_history.specs.declared.events.Event.TheVariants.{Accept, Cancel, Close, Settle, Checked}
+use Rattle.ask_history.specs.declared.events.Event.TheVariants.{Accept, Cancel, Close}
 use Rattle.ask_history.specs.declared.script.Order.{Order}
 use Rattle.ask_history.specs.declared.script.Order.TheVariants as order
 use Rattle.ask_history.specs.declared.script.Line.{Line}
 use Rattle.journal_laws.proofs.Tickets.{may_last}
-use Rattle.script_text.specs.declared.kinds.ScriptKind.TheVariants as kind
-use Rattle.script_text.specs.Standing.{is_meant, is_call_above}
-use Rattle.work_queue.specs.Queue.{cancelling}
-use Rattle.work_queue.specs.declared.limits.PostRefused.{PostRefused}
+use Rattle.script_text.specs.Standing.{is_call_above}
 use Rattle.client_scripts.specs.declared.client.Client.{Client}
-use Rattle.client_scripts.specs.declared.client.Held.{Held}
-use Rattle.client_scripts.specs.declared.client.Held.TheVariants.{Due, Had}
+use Rattle.client_scripts.specs.declared.client.Held.TheVariants.{Due}
 use Rattle.client_scripts.specs.Lines.{call_under, call_lines, next_number}
 use Rattle.client_scripts.specs.Clients.{calls_of, passes, has_come, Stands, IsAtLine}
 use Rattle.client_scripts.specs.History.{Entry, journal_of, signed_journal, has_entry_of, IsLater}
-use Rattle.client_scripts.specs.Passes.{PassState, seeing, made_by, closed_by, closing_by, Writes, IsDue, Accepts, Refuses, Cancels, Closes}
-use Rattle.client_scripts.specs.Runs.{IsRight, AreRight, Runs}
-use Rattle.client_scripts.specs.Holding.{ticket_at, IsHolding, IsPlaying, Posts, Rests, CancelsAt, ReceivesAt, HasStopped}
-use Rattle.client_scripts.proofs.Histories.{journal_of-append, signed-append, none_theirs, Silent, silent-append, calls_of-append, more_any, more_closed, all_come, stands_more, ticket_stays, signed_closed, signed_settled, signed_cancelled}
+use Rattle.client_scripts.specs.Passes.{PassState, seeing, made_by, closed_by, Writes, IsDue, Accepts, Cancels, Closes}
+use Rattle.client_scripts.specs.Runs.{AreRight, Runs}
+use Rattle.client_scripts.specs.Holding.{IsHolding, IsPlaying, Posts, Rests, CancelsAt, ReceivesAt, HasStopped}
+use Rattle.client_scripts.proofs.Histories.{journal_of-append, signed-append, none_theirs, Silent, more_closed, all_come, stands_more, ticket_stays, signed_settled, signed_cancelled}
 use Rattle.client_scripts.proofs.Numbers.{calls-append, next-append, counted, next_unaccepted, named_above}
-use Rattle.client_scripts.proofs.Written.{right_theirs, right-append, runs_more, right_settlings}
-use Rattle.client_scripts.proofs.Held.{writes_more, holding_writes, holding_accepted, calls_then, holding_more}
+use Rattle.client_scripts.proofs.Written.{right_theirs, runs_more, right_settlings}
+use Rattle.client_scripts.proofs.Held.{holding_writes, holding_accepted, calls_then, holding_more}
 
 -- the session is shut down, or the client is behind these lines
 abbrev pub Behind : ℕ → List Entry → List Line → Type 0

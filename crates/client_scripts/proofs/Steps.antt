@@ -1,5 +1,5 @@
 -- A client at a line of its script.
-use Rattle.std.proofs.Common.{◌≡◌, ◌⊎◌, inl, inr, ℕ, suc, ◌+◌, ◌<◌, ◌≤◌, ◌^◌, Bool, true, false, ◌&&◌, List, [], ◌∷◌, ◌++◌, take, drop, get_or, set, length, Option, Some, None, Result, Ok, Err, IfOk, IfErr, refl, sym, ap, ◌∙◌, subst, arith}
+use Rattle.std.proofs.Common.{◌≡◌, ℕ, suc, ◌+◌, ◌<◌, ◌^◌, true, List, [], ◌∷◌, ◌++◌, take, drop, get_or, length, Result, Ok, Err, IfOk, IfErr, refl, sym, ap, ◌∙◌, subst, arith}
 use Rattle.std.proofs.lemmas.Bool.{and_parts}
 use Rattle.std.proofs.lemmas.List.{take_more, set-get_or, set_split, length-take-le}
 use Rattle.ask_history.specs.Engine.{has_file_names}
@@ -9,11 +9,11 @@ use Rattle.ask_history.specs.declared.script.Order.{Order}
 use Rattle.ask_history.specs.declared.script.Order.TheVariants as order
 use Rattle.ask_history.specs.declared.script.Line.{Line}
 use Rattle.script_text.specs.declared.kinds.ScriptKind.TheVariants as kind
-use Rattle.script_text.specs.Standing.{is_meant, is_call_above, cancelled}
+use Rattle.script_text.specs.Standing.{is_meant, is_call_above}
 use Rattle.work_queue.specs.Reloads.{reloaded_by}
 use Rattle.work_queue.specs.declared.limits.PostRefused.{PostRefused}
 use Rattle.client_scripts.specs.declared.client.Client.{Client}
-use Rattle.client_scripts.specs.Lines.{call_lines, next_number, AreMeant, MayPost, AllMayPost}
+use Rattle.client_scripts.specs.Lines.{next_number, AreMeant, MayPost, AllMayPost}
 use Rattle.client_scripts.specs.Passes.{PassState, Closes}
 use Rattle.client_scripts.specs.Holding.{IsHolding, IsPlaying, Posts, Rests, CancelsAt, ReceivesAt, HasStopped}
 use Rattle.client_scripts.proofs.Numbers.{counted, calls_few}

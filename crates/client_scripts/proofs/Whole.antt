@@ -1,12 +1,12 @@
 -- The journal of clients that have all played their scripts.
-use Rattle.std.proofs.Common.{◌≡◌, ◌⊎◌, inl, inr, ℕ, zero, suc, ◌+◌, ◌<◌, Bool, true, false, true≢false, not, ◌||◌, ◌&&◌, ◌==◌, if◌then◌else◌, IsTrue, is_some, List, [], ◌∷◌, ◌++◌, map, Option, Some, None, refl, sym, ap, ◌∙◌, subst, arith, append_assoc, append-nil}
+use Rattle.std.proofs.Common.{◌≡◌, inl, inr, ℕ, zero, suc, Bool, true, false, true≢false, not, ◌||◌, ◌&&◌, ◌==◌, if◌then◌else◌, IsTrue, is_some, List, [], ◌∷◌, ◌++◌, Option, Some, None, refl, sym, ap, ◌∙◌, subst, arith, append_assoc, append-nil}
 use mathlib.Core.List.{IsPrefix}
 use Rattle.std.specs.List.{slice_get, list_any, list_all}
 use Rattle.std.specs.Option.{option_or}
-use Rattle.std.proofs.lemmas.Bool.{and_parts, and_from, eqb-true, eq-eqb}
+use Rattle.std.proofs.lemmas.Bool.{and_parts, and_from, eqb-true}
 use Rattle.std.proofs.lemmas.Bool.Decides.{nat_tests}
 use Rattle.std.proofs.lemmas.List.Folds.{list_any-append}
-use Rattle.ask_history.specs.Journal.{accepted, call_of, call_under, first_of_two, ticket_of, ticket_under, is_closed, is_close, is_settled}
+use Rattle.ask_history.specs.Journal.{call_of, first_of_two, ticket_of, is_closed, is_close}
 use Rattle.ask_history.specs.Legal.{is_legal, may_follow}
 use Rattle.ask_history.specs.declared.calls.Call.{Call}
 use Rattle.ask_history.specs.declared.events.Event.{Event}
@@ -20,9 +20,9 @@ use Rattle.client_scripts.specs.Lines.{call_lines, next_number, is_close_line, h
 use Rattle.client_scripts.specs.Lines.{call_under as line_call}
 use Rattle.client_scripts.specs.Clients.{call_in, calls_of, is_answered, has_come, Stands, IsAtLine}
 use Rattle.client_scripts.specs.OfScripts.{OfScript, is_finished, IsAtClose, some_close, OfScripts}
-use Rattle.client_scripts.specs.History.{Entry, journal_of, signed_by, signed_journal, has_entry_of, IsLater}
-use Rattle.client_scripts.specs.Runs.{IsRight, AreRight, Runs, HasEnded, Played, IsServants, AllPlayed}
-use Rattle.client_scripts.proofs.Histories.{or_left, journal_of-append, signed-append, calls_of-append, none_theirs, Silent, more_calls, more_closed, come_more, ticket_stays, signed_closed}
+use Rattle.client_scripts.specs.History.{Entry, journal_of, signed_by, signed_journal}
+use Rattle.client_scripts.specs.Runs.{IsRight, AreRight, Runs, HasEnded, IsServants, AllPlayed}
+use Rattle.client_scripts.proofs.Histories.{journal_of-append, signed-append, calls_of-append, none_theirs, Silent, more_calls, more_closed, come_more, ticket_stays, signed_closed}
 use Rattle.client_scripts.proofs.Numbers.{calls-append}
 use Rattle.client_scripts.proofs.Playing.{runs_later, no_accept}
 

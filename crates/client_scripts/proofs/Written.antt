@@ -1,13 +1,11 @@
 -- What a client made.
-use Rattle.std.proofs.Common.{◌≡◌, ℕ, Bool, true, false, true≢false, ◌||◌, ◌==◌, if◌then◌else◌, List, [], ◌∷◌, ◌++◌, map, refl, sym, ap, ◌∙◌, subst, append_assoc, append-nil}
+use Rattle.std.proofs.Common.{◌≡◌, ℕ, true, false, true≢false, ◌==◌, List, [], ◌∷◌, ◌++◌, map, sym, ◌∙◌, subst, append_assoc, append-nil}
 use Rattle.std.proofs.lemmas.Bool.{eq-eqb}
 use Rattle.ask_history.specs.Journal.{is_closed}
-use Rattle.ask_history.specs.declared.events.Event.{Event}
-use Rattle.ask_history.specs.declared.events.Event.TheVariants.{Accept, Cancel, Close, Settle, Checked}
 use Rattle.ask_history.specs.declared.script.Line.{Line}
 use Rattle.client_scripts.specs.History.{Entry, journal_of, has_entry_of}
-use Rattle.client_scripts.specs.Passes.{made_by, closed_by}
-use Rattle.client_scripts.specs.Runs.{IsRight, AreRight, Runs}
+use Rattle.client_scripts.specs.Passes.{closed_by}
+use Rattle.client_scripts.specs.Runs.{AreRight, Runs}
 use Rattle.client_scripts.proofs.Histories.{or_left, or_right, more_closed}
 
 pub right-append : (c : ℕ) (lines : List Line) (before front back : List Entry) → AreRight c lines before front → AreRight c lines (before ++ front) back

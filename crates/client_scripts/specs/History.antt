@@ -5,7 +5,7 @@ use Rattle.ask_history.specs.Journal.{call_under, settles}
 use Rattle.ask_history.specs.Legal.{is_legal}
 use Rattle.ask_history.specs.declared.answers.Answer.{Answer}
 use Rattle.ask_history.specs.declared.events.Event.{Event}
-use Rattle.ask_history.specs.declared.events.Event.TheVariants.{Accept, Cancel, Close, Settle, Checked}
+use Rattle.ask_history.specs.declared.events.Event.TheVariants.{Accept}
 
 -- An event of the history, with the number of the pass that made it, and the answer of a settling.
 pub record Entry : Type 0 where

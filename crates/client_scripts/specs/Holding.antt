@@ -5,7 +5,6 @@ use Rattle.ask_history.specs.Legal.{is_legal}
 use Rattle.ask_history.specs.declared.answers.Answer.{Answer}
 use Rattle.ask_history.specs.declared.calls.Call.{Call}
 use Rattle.ask_history.specs.declared.script.Line.{Line}
-use Rattle.work_queue.specs.declared.limits.PostRefused.{PostRefused}
 use Rattle.work_queue.specs.declared.limits.PostRefused.TheVariants.{Closed}
 use Rattle.client_scripts.specs.declared.client.Client.{Client}
 use Rattle.client_scripts.specs.declared.client.Held.{Held}

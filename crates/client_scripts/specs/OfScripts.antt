@@ -1,5 +1,5 @@
 -- Which journals are those of clients that play their scripts.
-use Rattle.std.specs.Prelude.{◌≡◌, ℕ, Bool, true, false, List, [], ◌∷◌, ◌++◌, slice_get, Option, Some, None}
+use Rattle.std.specs.Prelude.{◌≡◌, ℕ, Bool, true, false, List, [], ◌∷◌, ◌++◌, slice_get, Some, None}
 use Rattle.std.specs.List.{list_any, list_all}
 use Rattle.ask_history.specs.Journal.{ticket_of}
 use Rattle.ask_history.specs.declared.calls.Call.{Call}

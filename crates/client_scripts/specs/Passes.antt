@@ -1,5 +1,5 @@
 -- What the calls of a client's pass do.
-use Rattle.std.specs.Prelude.{◌≡◌, ℕ, ◌==◌, ◌<◌, true, false, Bool, IsTrue, if◌then◌else◌, List, [], ◌∷◌, ◌++◌, map, Option, Some, None}
+use Rattle.std.specs.Prelude.{◌≡◌, ℕ, ◌==◌, ◌<◌, true, false, Bool, IsTrue, if◌then◌else◌, List, [], ◌∷◌, ◌++◌, map, Some, None}
 use Rattle.std.specs.List.{list_any}
 use Rattle.ask_history.specs.Closing.{open_tickets}
 use Rattle.ask_history.specs.Journal.{accepted, is_closed, is_settled}

@@ -1,5 +1,5 @@
 -- What a client did that played its script, and what all have done once the history is whole.
-use Rattle.std.specs.Prelude.{◌≡◌, ◌⊎◌, ⊤, ℕ, ◌+◌, true, List, [], ◌∷◌, ◌++◌, length, slice_get, option_and_then, Option, Some, None}
+use Rattle.std.specs.Prelude.{◌≡◌, ◌⊎◌, ⊤, ℕ, ◌+◌, true, List, [], ◌∷◌, ◌++◌, length, slice_get, option_and_then, Some, None}
 use mathlib.Core.List.{IsPrefix}
 use Rattle.ask_history.specs.Journal.{ticket_of, is_closed}
 use Rattle.ask_history.specs.declared.answers.Answer.{Answer}

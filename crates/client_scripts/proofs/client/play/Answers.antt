@@ -1,8 +1,6 @@
-use Rattle.std.proofs.Common.{◌≡◌, List, take, sym, ap, ◌∙◌, subst, refl}
-use Rattle.std.proofs.lemmas.List.{take_all}
+use Rattle.std.proofs.Common.{List, sym, subst, refl}
 use Rattle.ask_history.specs.declared.script.Line.{Line}
 use Rattle.client_scripts.specs.Runs.{Runs, HasEnded, AreAnswers}
-use Rattle.client_scripts.specs.Holding.{IsPlaying}
 use Rattle.client_scripts.proofs.Finished.{begins, at_end, end_named, end_runs, end_ended, end_answers}
 use Rattle.client_scripts.proofs.client.play.Goals as goal
 

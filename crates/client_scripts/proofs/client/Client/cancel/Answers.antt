@@ -1,6 +1,5 @@
-use Rattle.std.proofs.Common.{◌≡◌, inl, inr, refl, sym, ◌∙◌, ap}
-use Rattle.client_scripts.specs.Holding.{Holds, ticket_at}
-use Rattle.client_scripts.proofs.Held.{holds_at, holds_due, holds_had, due_at, cancels_had}
+use Rattle.std.proofs.Common.{inl}
+use Rattle.client_scripts.proofs.Held.{due_at, cancels_had}
 use Rattle.client_scripts.proofs.client.Client.cancel.Goals as goal
 
 pub cancel-requires : goal.cancel-requires

@@ -1,4 +1,3 @@
-use Rattle.std.proofs.Common.{◌≡◌, sym, ◌∙◌, ap, subst}
 use Rattle.client_scripts.proofs.Held.{at_place, can_receive, receive_holding, receive_received}
 use Rattle.client_scripts.proofs.client.Client.receive.Goals as goal
 

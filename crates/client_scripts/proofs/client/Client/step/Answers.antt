@@ -1,4 +1,3 @@
-use Rattle.client_scripts.proofs.Playing.{stopped}
 use Rattle.client_scripts.proofs.Steps.{order_here, line_posts, number_fits, step_posted, step_stopped, step_idle, step_closed, step_cancelled, step_waited, step_no_cancel, step_no_wait}
 use Rattle.client_scripts.proofs.client.Client.step.Goals as goal
 
