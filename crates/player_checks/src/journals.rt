@@ -13,9 +13,9 @@ use std::test::Fail;
 /// A schedule, and what comes of it.
 type Case = (&'static str, &'static str);
 
-const TURNS: [u32; 5] = [0, 1, 2, 9, 4_294_967_295];
+pub const TURNS: [u32; 5] = [0, 1, 2, 9, 4_294_967_295];
 
-const PAUSE: u64 = 3;
+pub const PAUSE: u64 = 3;
 
 static ASKS: [Case; 8] = [
     // An ask after a reload.
@@ -105,7 +105,7 @@ static CALLED_OFF: [Case; 5] = [
     ),
 ];
 
-static CHECKS: [Case; 12] = [
+static CHECKS: [Case; 13] = [
     // One check, and none the second time.
     (
         "reload A a.txt\nidle\nidle\n",
@@ -130,6 +130,24 @@ static CHECKS: [Case; 12] = [
     (
         "reload A a.txt C c.txt\nidle\n  @1.0 type A 19\n",
         "journal +0 =0 ?A +1 =1 ?C\ndone\nLiteral 19-20 Int -\nproblems 0 0",
+    ),
+    // Every other kind of ask in a check.
+    (
+        "reload A a.txt C c.txt\n\
+            idle\n\
+            \x20 @0.0 members A 19\n\
+            \x20 @0.0 scope A 19\n\
+            \x20 @0.0 link A 19\n\
+            \x20 @0.0 structure A\n\
+            \x20 @1.0 typed A\n",
+        "journal +0 =0 +1 =1 +2 =2 +3 =3 +4 =4 ?A +5 =5 ?C\n\
+            done\n\
+            unread\n\
+            unread\n\
+            unread\n\
+            unread\n\
+            unread\n\
+            problems 0 0",
     ),
     // A reload in the first check, after which all are read.
     (

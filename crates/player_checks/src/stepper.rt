@@ -15,6 +15,10 @@ pub struct Stepper {
     core: Core,
     pending: u64,
     pause: u64,
+    // The turns since it was last fed, settled or stopped.
+    turns: u64,
+    /// A digit for each call that it was fed: the turns that it had before.
+    pub arrivals: u64,
 }
 
 impl Stepper {
@@ -26,7 +30,16 @@ impl Stepper {
             core: Core::new(alloc)?,
             pending: pause,
             pause,
+            turns: 0,
+            arrivals: 0,
         })
+    }
+
+    fn begin_again(&mut self)
+        ensures { self.new.core ≡ self.old.core }
+    {
+        self.pending = self.pause;
+        self.turns = 0;
     }
 }
 
@@ -50,12 +63,14 @@ impl Engine for Stepper {
     ghost listed = { thin_listed };
 
     fn feed(&mut self, ticket: u64, call: &Call) -> Fed {
-        self.pending = self.pause;
+        self.arrivals = self.arrivals.wrapping_mul(10).wrapping_add(self.turns);
+        self.begin_again();
         self.core.feed(ticket, call)
     }
 
     #[tactic(auto, using(crate::proofs::Busy::not_idle))]
     fn turn(&mut self, steps: u64) -> Turn {
+        self.turns = self.turns.wrapping_add(1);
         match self.core.turn(steps) {
             Turn::Ready(ticket, found) => {
                 if self.pending > 0 {
@@ -69,12 +84,12 @@ impl Engine for Stepper {
     }
 
     fn settled(&mut self, ticket: u64, effect: Effect) {
-        self.pending = self.pause;
+        self.begin_again();
         self.core.settled(ticket, effect);
     }
 
     fn stop(&mut self) {
-        self.pending = self.pause;
+        self.begin_again();
         self.core.stop();
     }
 }

@@ -1,9 +1,10 @@
 //! What a run is made of, and what it must come to.
 
+use crate::counting::CountingFiles;
 use crate::reporters::Listener;
 use compiler_loop::Core;
-use pc_outside::{MemoryFiles, MemorySink};
-use pc_terms::NoMemory;
+use pc_outside::MemorySink;
+use pc_terms::{NoMemory, Row, Text};
 use session_run::run_alone;
 use std::alloc::Global;
 use std::process::Abort;
@@ -16,7 +17,7 @@ use std::test::Fail;
 pub struct Case {
     pub name: &'static str,
     pub words: Vec<String>,
-    pub files: MemoryFiles,
+    pub files: CountingFiles,
     pub out_fails: bool,
     pub err_fails: bool,
     pub status: u8,
@@ -61,8 +62,8 @@ fn files_of(
     alloc: Global,
     failing: Vec<u64>,
     files: &[(&str, &str)],
-) -> Result<MemoryFiles, NoMemory> {
-    let mut kept = MemoryFiles::new(alloc, failing);
+) -> Result<CountingFiles, NoMemory> {
+    let mut kept = CountingFiles::new(alloc, failing);
     for (name, text) in files {
         kept.insert(name, text.as_bytes().to_vec(alloc)?)?;
     }
@@ -164,11 +165,21 @@ fn run(alloc: Global, case: &mut Case) -> Result<Left, NoMemory> {
     })
 }
 
+/// The names of the files that a run reads, in order.
+pub fn reads(alloc: Global, case: Case) -> Result<Row<Text>, NoMemory> {
+    let mut case = case;
+    run(alloc, &mut case)?;
+    let Case { files, .. } = case;
+    Ok(files.into_reads())
+}
+
+/// Holds a run against what it must come to. No run reads a file twice.
 pub fn agree(rt: &(impl Abort + AllocGlobal), case: Case) -> Result<(), Fail> {
     let mut case = case;
     let left = run(rt.alloc(), &mut case)?;
     let name = case.name;
     assert_eq!(rt; left.status, case.status, "{name}");
+    assert_eq!(rt; case.files.read_again(), None, "{name}");
     if case.out != ANYTHING {
         assert_eq!(rt; left.out.bytes(), case.out.as_bytes(), "{name}");
     }

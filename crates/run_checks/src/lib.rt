@@ -6,9 +6,13 @@ mod asks;
 #[cfg(test)]
 mod cases;
 #[cfg(test)]
+mod counting;
+#[cfg(test)]
 mod limits;
 #[cfg(test)]
 mod nesting;
+#[cfg(test)]
+mod reads;
 #[cfg(test)]
 mod refusals;
 #[cfg(test)]

@@ -7,7 +7,7 @@ use std::test::Fail;
 const THIN_B: &str = "object B { val a = 1; val b = a }";
 
 #[test]
-fn asks_are_cancelled_and_shut_down(rt: HostRuntime) -> Result<(), Fail> {
+fn asks_are_cancelled(rt: HostRuntime) -> Result<(), Fail> {
     let alloc = rt.alloc();
     let case = done(
         alloc,
@@ -50,7 +50,12 @@ fn asks_are_cancelled_and_shut_down(rt: HostRuntime) -> Result<(), Fail> {
             cancel\t2\tlate\t3\n\
             end\n",
     )?;
-    agree(&rt, case)?;
+    agree(&rt, case)
+}
+
+#[test]
+fn a_shutdown_settles_what_is_open(rt: HostRuntime) -> Result<(), Fail> {
+    let alloc = rt.alloc();
     let case = done(
         alloc,
         "a shutdown inside three asks",

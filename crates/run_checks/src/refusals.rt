@@ -1,6 +1,6 @@
 //! Runs that are refused, in the order of the reasons.
 
-use crate::cases::{A, LITERAL, agree, done, refused, usage, with_failing_read, with_file};
+use crate::cases::{A, LITERAL, agree, refused, usage, with_file};
 use std::test::Fail;
 
 #[test]
@@ -91,41 +91,4 @@ fn the_first_reason_is_told(rt: HostRuntime) -> Result<(), Fail> {
         "read fault: a.txt\n",
     )?;
     agree(&rt, with_file(case, "b.txt", foreign)?)
-}
-
-#[test]
-fn each_file_is_read_once(rt: HostRuntime) -> Result<(), Fail> {
-    let alloc = rt.alloc();
-    let files = [
-        (
-            "s",
-            "reload A.scala a.txt B.scala a.txt\nreload A.scala a.txt\n",
-        ),
-        ("a.txt", ""),
-    ];
-    let case = done(
-        alloc,
-        "a third read fails",
-        &files,
-        "journal\t4\n\
-            0\taccept\t0\t0\t1\treload A.scala 0 B.scala 0\n\
-            1\tsettle\t0\tdone\n\
-            2\taccept\t1\t0\t2\treload A.scala 0\n\
-            3\tsettle\t1\tdone\n\
-            client\t0\n\
-            1\tdone\n\
-            2\tdone\n\
-            end\n",
-    )?;
-    agree(&rt, with_failing_read(alloc, case, 3, &files)?)?;
-    let case = refused(
-        alloc,
-        "the second read fails",
-        &files,
-        3,
-        "read fault: a.txt\n",
-    )?;
-    agree(&rt, with_failing_read(alloc, case, 2, &files)?)?;
-    let case = refused(alloc, "the first read fails", &files, 3, "read fault: s\n")?;
-    agree(&rt, with_failing_read(alloc, case, 1, &files)?)
 }
