@@ -1,6 +1,8 @@
 -- A desk may be shared by threads: what is under its lock may go from one to another.
 use denote.RattleType.{RattleType}
-use denote.Param.Send.{IsSend, IsSync, sendable, recorded_send, struct_send, struct_sync_at, enum_send, view_send}
+use mathlib.Core.Bool.{Bool, true, false}
+use denote.Exit.{Exit, if_kept, unseen}
+use denote.Param.Send.{Quiet, IsSend, IsSync, sendable, recorded_send, struct_send, struct_sync_at, enum_send, view_send}
 use denote.Struct.Struct.{Struct}
 use denote.Enum.Enum.{Enum}
 use denote.Struct.Declared as structs
@@ -135,3 +137,10 @@ module _ (B : RattleType) (room : Ghosts B.Denot) (send : IsSend B) (sync : IsSy
         struct_sync_at (structs.shape (desk.the_type B room)) ((desk.the_type B room).to d)
         ((counter_crosses.the_sync B room).shared d.counter, (mutex_sync.shared _, (condvar_sync.shared _, (condvar_sync.shared _, tt))));
   }
+
+-- ---- closures
+
+-- What a closure leaves behind, where it is passed on as a type parameter.
+pub leaving_if : {D : Type 0} (b : Bool) (e : Exit D) → Quiet e → Quiet (if_kept b e unseen)
+leaving_if true e quiet = quiet
+leaving_if false e quiet = λ d w. tt
