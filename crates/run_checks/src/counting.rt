@@ -31,15 +31,15 @@ impl CountingFiles {
         reads
     }
 
-    /// The first name that was read again.
-    pub fn read_again(&self) -> Option<&str> {
+    /// Whether a name was read again.
+    pub fn were_read_again(&self) -> bool {
         let reads = self.reads.as_slice();
         for (place, name) in reads.iter().enumerate() {
             if reads[..place].contains(name) {
-                return Some(name.as_str());
+                return true;
             }
         }
-        None
+        false
     }
 }
 
