@@ -1,5 +1,5 @@
 -- What a queue is seen as, and what its calls answer.
-use Rattle.std.specs.Prelude.{ℕ, ◌+◌, ◌==◌, Bool, true, false, ◌||◌, if◌then◌else◌, List, [], ◌∷◌, ◌++◌, length, Option, Some, None, unwrap_or}
+use Rattle.std.specs.Prelude.{ℕ, ◌+◌, ◌==◌, Bool, true, false, not, ◌&&◌, ◌||◌, if◌then◌else◌, List, [], ◌∷◌, ◌++◌, length, Option, Some, None, unwrap_or}
 use Rattle.ask_history.specs.Journal.{accepted, is_closed, is_cancelled, is_settled}
 use Rattle.ask_history.specs.declared.calls.Call.{Call}
 use Rattle.ask_history.specs.declared.events.Mark.{Mark}
@@ -69,8 +69,10 @@ answer_to false mutates NoMemory = answer.NoMemory
 answer_to false true (Value found) = answer.Done
 answer_to false false (Value found) = found
 
+abbrev pub is_value : Settling → Bool
+is_value (Value found) = true
+is_value NoMemory = false
+
+-- a mutation takes effect that is not cancelled and found its value
 abbrev pub effect_to : Bool → Bool → Settling → Effect
-effect_to true mutates what = Dropped
-effect_to false mutates NoMemory = Dropped
-effect_to false true (Value found) = Applies
-effect_to false false (Value found) = Dropped
+effect_to cancelled mutates what = if not cancelled && is_value what && mutates then Applies else Dropped
