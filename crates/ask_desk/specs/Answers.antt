@@ -5,7 +5,7 @@ use Rattle.ask_history.specs.Closing.{open_tickets, settled}
 use Rattle.ask_history.specs.declared.answers.Answer.{Answer}
 use Rattle.ask_history.specs.declared.answers.Answer.TheVariants as answer
 use Rattle.ask_history.specs.declared.events.Event.{Event}
-use Rattle.ask_history.specs.declared.events.Event.TheVariants.{Accept, Cancel, Close, Settle, Checked}
+use Rattle.ask_history.specs.declared.events.Event.TheVariants.{Close, Settle, Checked}
 use Rattle.counting_word.specs.declared.view.Entry.{Entry}
 use Rattle.counting_word.specs.declared.view.Found.{Found}
 use Rattle.counting_word.specs.declared.view.Found.TheVariants.{Nothing, Answered, Problems}
@@ -30,9 +30,7 @@ answer_of (entry ∷ history) ticket = if settles ticket entry.event then found_
 abbrev pub may_make : Bool → Event → ℕ → Bool
 may_make closed (Checked file) author = author == engine_number
 may_make closed (Settle ticket mark) author = closed || (author == engine_number)
-may_make closed (Accept ticket client tag call) author = true
-may_make closed (Cancel ticket) author = true
-may_make closed Close author = true
+may_make closed _ author = true
 
 -- every event was made by one who may
 abbrev pub is_rightful : Bool → List Entry → Bool
@@ -42,10 +40,7 @@ is_rightful closed (entry ∷ history) = may_make closed entry.event entry.autho
 -- what an event finds that a caller makes: a settling, which a caller makes at the shutdown alone, has the answer Closed
 abbrev pub callers_find : Event → Found
 callers_find (Settle ticket mark) = Answered answer.Closed
-callers_find (Accept ticket client tag call) = Nothing
-callers_find (Cancel ticket) = Nothing
-callers_find Close = Nothing
-callers_find (Checked file) = Nothing
+callers_find _ = Nothing
 
 abbrev pub caller_entry : Name → Event → Entry
 caller_entry name event = entry_of name event (callers_find event)
