@@ -26,12 +26,10 @@ own-known known k (Ask j next) v h =
     let first = done-asked j (known j) (λ w. run known (own k (next (Has w)))) v h in own-known known k (next (Has first.0)) v first.2
 
 pub own-ordinary : (k : Item) (v : ItemValue) → is_own k v ≡ true → is_cyclic v ≡ false
-own-ordinary k (given.Parents ts) h = refl
-own-ordinary k (given.Signature s) h = refl
-own-ordinary k (given.Qualifier q) h = refl
 own-ordinary (item.Parents p) given.Cyclic h = absurd (true≢false (sym h))
 own-ordinary (item.Signature p) given.Cyclic h = absurd (true≢false (sym h))
 own-ordinary (item.Qualifier f n) given.Cyclic h = absurd (true≢false (sym h))
+own-ordinary k v h = refl
 
 pub info-own : (k : Item) (v : ItemValue) → is_own k v ≡ true → info v ≡ Has v
 info-own k v h = ap (λ b. if b then Cyclic else Has v) (own-ordinary k v h)

@@ -10,12 +10,23 @@ use Rattle.pc_terms.specs.contracts.items.ItemPartialEq.TheImpl as derived
 abbrev pub item_eq : Item → Item → Bool
 item_eq = (derived.ghosts).eq
 
+abbrev pub are_parents : ItemValue → Bool
+are_parents (value.Parents _) = true
+are_parents _ = false
+
+abbrev pub is_signature : ItemValue → Bool
+is_signature (value.Signature _) = true
+is_signature _ = false
+
+abbrev pub is_qualifier : ItemValue → Bool
+is_qualifier (value.Qualifier _) = true
+is_qualifier _ = false
+
 -- the value is an ordinary one of the item's own variant
 abbrev pub is_own : Item → ItemValue → Bool
-is_own (item.Parents _) (value.Parents _) = true
-is_own (item.Signature _) (value.Signature _) = true
-is_own (item.Qualifier _ _) (value.Qualifier _) = true
-is_own _ _ = false
+is_own (item.Parents _) v = are_parents v
+is_own (item.Signature _) v = is_signature v
+is_own (item.Qualifier _ _) v = is_qualifier v
 
 abbrev pub is_cyclic : ItemValue → Bool
 is_cyclic value.Cyclic = true
