@@ -11,6 +11,7 @@ use counting_word::{Opened, Room};
 use pc_terms::NoMemory;
 use std::alloc::Global;
 use std::marker::Brand;
+use std::process::Abort;
 use std::sync::Wait;
 use std::test::Fail;
 use work_queue::{Limits, PostRefused};
@@ -63,9 +64,20 @@ fn refusals_over<N: Room, R: Wait>(
 {
     let (desk, mut engine) = Desk::<N>::start(alloc, opened, limits)?;
     let mut pass = desk.new_pass(&mut engine);
-    let first = first_refusal(rt, alloc, &desk, &mut pass, reloads)?;
-    desk.close(rt, &mut pass);
-    let last = first_refusal(rt, alloc, &desk, engine.as_pass(), &[A])?;
+    refusals_at(rt, alloc, &desk, &mut pass, engine.as_pass(), reloads)
+}
+
+fn refusals_at<N: Room, R: Wait>(
+    rt: &R,
+    alloc: Global,
+    desk: &Desk<N>,
+    pass: &mut Pass<N>,
+    behind: &mut Pass<N>,
+    reloads: &[File],
+) -> Result<Refusals, NoMemory> {
+    let first = first_refusal(rt, alloc, desk, pass, reloads)?;
+    desk.close(rt, pass);
+    let last = first_refusal(rt, alloc, desk, behind, &[A])?;
     Ok((first, last))
 }
 
@@ -85,65 +97,40 @@ fn first_refusal<N: Room, R: Wait>(
     Ok(None)
 }
 
-#[test]
-fn a_call_past_a_limit_is_refused(rt: HostRuntime) -> Result<(), Fail> {
-    let alloc = rt.alloc();
-    let calls = Limits { calls: 2, ..ALL };
-    assert_eq!(&rt;
-        refusals(&rt, alloc, calls, &[A, A, A])?.0,
-        Some(PostRefused::CallsFull(2))
-    );
-    let text = Limits { text: 30, ..ALL };
-    assert_eq!(&rt;
-        refusals(&rt, alloc, text, &[A, A])?.0,
-        Some(PostRefused::TextFull(44))
-    );
-    let file = Limits { file: 21, ..ALL };
-    assert_eq!(&rt;
-        refusals(&rt, alloc, file, &[A])?.0,
-        Some(PostRefused::TooLarge(22))
-    );
-    let names = Limits { names: 1, ..ALL };
-    assert_eq!(&rt;
-        refusals(&rt, alloc, names, &[A, B])?.0,
-        Some(PostRefused::NamesFull(2))
-    );
-    let map = Limits { map: 40, ..ALL };
-    assert_eq!(&rt;
-        refusals(&rt, alloc, map, &[A, B])?.0,
-        Some(PostRefused::MapFull(55))
-    );
-    assert_eq!(&rt; refusals(&rt, alloc, ALL, &[A, B, A])?.0, None);
+/// Holds what is refused of these reloads against what must be, and what is refused behind the shutdown.
+fn agree<R: Abort + AllocGlobal + Wait>(
+    rt: &R,
+    limits: Limits,
+    reloads: &[File],
+    first: Option<PostRefused>,
+    last: PostRefused,
+) -> Result<(), Fail>
+    requires { IsWithin limits }
+{
+    let (refused, behind) = refusals(rt, rt.alloc(), limits, reloads)?;
+    assert_eq!(rt; refused, first);
+    assert_eq!(rt; behind, Some(last));
     Ok(())
 }
 
 #[test]
-fn a_call_behind_the_shutdown_is_refused_as_closed(rt: HostRuntime) -> Result<(), Fail> {
-    let alloc = rt.alloc();
+fn a_call_past_a_limit_is_refused_and_behind_the_shutdown_as_closed(
+    rt: HostRuntime,
+) -> Result<(), Fail> {
     let calls = Limits { calls: 2, ..ALL };
-    assert_eq!(&rt;
-        refusals(&rt, alloc, calls, &[A, A, A])?.1,
-        Some(PostRefused::Closed(2))
-    );
+    let full = Some(PostRefused::CallsFull(2));
+    agree(&rt, calls, &[A, A, A], full, PostRefused::Closed(2))?;
     let text = Limits { text: 30, ..ALL };
-    assert_eq!(&rt;
-        refusals(&rt, alloc, text, &[A, A])?.1,
-        Some(PostRefused::Closed(1))
-    );
+    let full = Some(PostRefused::TextFull(44));
+    agree(&rt, text, &[A, A], full, PostRefused::Closed(1))?;
     let file = Limits { file: 21, ..ALL };
-    assert_eq!(&rt;
-        refusals(&rt, alloc, file, &[A])?.1,
-        Some(PostRefused::Closed(0))
-    );
+    let large = Some(PostRefused::TooLarge(22));
+    agree(&rt, file, &[A], large, PostRefused::Closed(0))?;
     let names = Limits { names: 1, ..ALL };
-    assert_eq!(&rt;
-        refusals(&rt, alloc, names, &[A, B])?.1,
-        Some(PostRefused::Closed(1))
-    );
+    let full = Some(PostRefused::NamesFull(2));
+    agree(&rt, names, &[A, B], full, PostRefused::Closed(1))?;
     let map = Limits { map: 40, ..ALL };
-    assert_eq!(&rt;
-        refusals(&rt, alloc, map, &[A, B])?.1,
-        Some(PostRefused::Closed(1))
-    );
-    Ok(())
+    let full = Some(PostRefused::MapFull(55));
+    agree(&rt, map, &[A, B], full, PostRefused::Closed(1))?;
+    agree(&rt, ALL, &[A, B, A], None, PostRefused::Closed(3))
 }
