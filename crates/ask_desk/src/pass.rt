@@ -5,6 +5,7 @@ ghost use Rattle.counting_word.specs.Views.{loaded, client_of, after_client};
 ghost use Rattle.counting_word.specs.History.{engine_number};
 ghost use Rattle.counting_word.specs.Steps.{Learns};
 ghost use Rattle.counting_word.specs.Calls.{Meets};
+ghost use Rattle.ask_desk.specs.Facts.{IsPass};
 
 use counting_word::{Counter, Room, Seat};
 use std::marker::{Model, PhantomData};
@@ -32,6 +33,13 @@ impl<B: Room> Model for Pass<B> {
 }
 
 impl<B: Room> Pass<B> {
+    /// What a pass knows between calls. It does nothing.
+    pub fn known(&self)
+        ensures { (number : ℕ) × IsPass self.now number }
+    {
+        let _number = self.number;
+    }
+
     pub(crate) fn glance(&mut self, counter: &Counter<B>) -> u64
         ensures view { self.new ≡ loaded self.old result }
         ensures learns { Learns self.old result }

@@ -198,11 +198,11 @@ finished_more c old more (call ∷ calls) h =
 
 -- ---- an entry of a client
 
-right_in : (c : ℕ) (lines : List Line) (start before behind : List Entry) (entry : Entry) → AreRight c lines start (before ++ entry ∷ behind) → entry.author ≡ c
-    → IsRight c lines (start ++ before) entry.event
-right_in c lines start [] behind entry h mine = subst (λ es. IsRight c lines es entry.event) (sym (append-nil start)) (h.0 mine)
+pub right_in : (c : ℕ) (lines : List Line) (start before behind : List Entry) (entry : Entry) → AreRight c lines start (before ++ entry ∷ behind) → entry.author ≡ c
+    → IsRight c lines (start ++ before) entry.event entry.answer
+right_in c lines start [] behind entry h mine = subst (λ es. IsRight c lines es entry.event entry.answer) (sym (append-nil start)) (h.0 mine)
 right_in c lines start (first ∷ before) behind entry h mine =
-    subst (λ es. IsRight c lines es entry.event) (append_assoc start (first ∷ []) before) (right_in c lines (start ++ first ∷ []) before behind entry h.1 mine)
+    subst (λ es. IsRight c lines es entry.event entry.answer) (append_assoc start (first ∷ []) before) (right_in c lines (start ++ first ∷ []) before behind entry h.1 mine)
 
 -- ---- the whole
 
@@ -215,7 +215,7 @@ module _ (scripts : List Script) (history : List Entry) (seen : ℕ → List Ent
 
   -- an entry at its place: it is a client's, or of none
   data Maker (before : List Entry) (entry : Entry) : Type 0 where
-    Clients : (script : Script) → slice_get scripts entry.author ≡ Some script → IsRight entry.author script.lines before entry.event → Maker before entry
+    Clients : (script : Script) → slice_get scripts entry.author ≡ Some script → IsRight entry.author script.lines before entry.event entry.answer → Maker before entry
     Others : slice_get scripts entry.author ≡ None → IsServants scripts seen before entry.event → Maker before entry
 
   maker : (before behind : List Entry) (entry : Entry) → history ≡ before ++ entry ∷ behind → Maker before entry
@@ -230,7 +230,7 @@ module _ (scripts : List Script) (history : List Entry) (seen : ℕ → List Ent
   signed_here : (before : List Entry) (entry : Entry) → Maker before entry → signed_by entry.author entry.event ≡ entry.event
   signed_here before entry (Clients script there right) = by entry.event right
     where
-      by : (event : Event) → IsRight entry.author script.lines before event → signed_by entry.author event ≡ event
+      by : (event : Event) → IsRight entry.author script.lines before event entry.answer → signed_by entry.author event ≡ event
       by (Accept t client tag call) r = ap (λ n. Accept t n tag call) (sym r.0)
       by (Cancel t) r = refl
       by Close r = refl
@@ -254,7 +254,7 @@ module _ (scripts : List Script) (history : List Entry) (seen : ℕ → List Ent
   same_front : (front rest : List Entry) → history ≡ front ++ rest → signed_journal front ≡ journal_of front
   same_front front rest whole = same_within [] front rest whole
 
-  same_all : signed_journal history ≡ journal
+  pub same_all : signed_journal history ≡ journal
   same_all = same_front history [] (sym (append-nil history))
 
   -- each prefix is legal, and each event may follow the one before it
@@ -292,7 +292,7 @@ module _ (scripts : List Script) (history : List Entry) (seen : ℕ → List Ent
       where
         by : (s : Split history front (Accept t c tag call)) → Maker s.before s.entry → (line : IsAtLine c script.lines front (order.Call call)) × (tag ≡ next_number 1 line.above)
         by s (Clients other at right) =
-            let r = subst (IsRight s.entry.author other.lines s.before) s.is_event right in
+            let r = subst (λ (e : Event). IsRight s.entry.author other.lines s.before e s.entry.answer) s.is_event right in
             (line_of c s.entry.author script other s.before s.behind s.entry front (order.Call call) s.whole s.is_front r.0 (one_script c s.entry.author script other there r.0 at) r.1.0, r.1.1)
         by s (Others none servant) = absurd (subst (IsServants scripts seen s.before) s.is_event servant)
 
@@ -303,7 +303,7 @@ module _ (scripts : List Script) (history : List Entry) (seen : ℕ → List Ent
       where
         by : (s : Split history front (Cancel t)) → Maker s.before s.entry → IsAtLine c script.lines front (order.Cancel tag)
         by s (Clients other at right) =
-            let r = subst (IsRight s.entry.author other.lines s.before) s.is_event right in
+            let r = subst (λ (e : Event). IsRight s.entry.author other.lines s.before e s.entry.answer) s.is_event right in
             let theirs : ticket_of journal s.entry.author r.0 ≡ Some t =
             subst (λ js. ticket_of js s.entry.author r.0 ≡ Some t) same_all
             (subst (λ es. ticket_of (signed_journal es) s.entry.author r.0 ≡ Some t) (sym s.whole) (ticket_stays s.entry.author s.before (s.entry ∷ s.behind) r.0 t r.1)) in
@@ -330,7 +330,7 @@ module _ (scripts : List Script) (history : List Entry) (seen : ℕ → List Ent
     }
 
     accept_front : (before behind : List Entry) (entry : Entry) (t client tag : ℕ) (call : Call) → history ≡ before ++ entry ∷ behind → entry.author ≡ c
-        → entry.event ≡ Accept t client tag call → IsRight c script.lines before (Accept t client tag call) → Front (before ++ entry ∷ [])
+        → entry.event ≡ Accept t client tag call → IsRight c script.lines before (Accept t client tag call) entry.answer → Front (before ++ entry ∷ [])
     accept_front before behind entry t client tag call whole mine is r =
         let line : IsAtLine c script.lines (signed_journal before) (order.Call call) = r.1.0 in
         let open_ : is_closed (journal_of before) ≡ false = no_accept (journal_of before) t client tag call (subst (λ e. IsTrue (may_follow (journal_of before) e)) is (may_here before behind entry whole)) in
@@ -353,7 +353,7 @@ module _ (scripts : List Script) (history : List Entry) (seen : ℕ → List Ent
     front_step : (before behind : List Entry) (entry : Entry) → history ≡ before ++ entry ∷ behind → Front before → Front (before ++ entry ∷ [])
     front_step before behind entry whole f = by (entry.author == c) refl
       where
-        mine : entry.author ≡ c → (event : Event) → entry.event ≡ event → IsRight c script.lines before event → Front (before ++ entry ∷ [])
+        mine : entry.author ≡ c → (event : Event) → entry.event ≡ event → IsRight c script.lines before event entry.answer → Front (before ++ entry ∷ [])
         mine same (Accept t client tag call) is r = accept_front before behind entry t client tag call whole same is r
         mine same (Cancel t) is r = silent_front before entry (ap (λ e. call_in c (signed_by entry.author e) ++ []) is) f
         mine same Close is r = silent_front before entry (ap (λ e. call_in c (signed_by entry.author e) ++ []) is) f
@@ -398,7 +398,7 @@ module _ (scripts : List Script) (history : List Entry) (seen : ℕ → List Ent
               let both : Some script ≡ None = sym there ∙ ap (slice_get scripts) (sym same ∙ eqb-true client c e) ∙ none in cc
           case_of false e = refl
 
-      by : (event : Event) → IsRight entry.author script.lines before event → call_in c event ≡ []
+      by : (event : Event) → IsRight entry.author script.lines before event entry.answer → call_in c event ≡ []
       by (Accept t client tag call) r = ap (λ b. if b then (tag, call) ∷ [] else []) (apart client r.0)
       by (Cancel t) r = refl
       by Close r = refl
@@ -453,7 +453,7 @@ module _ (scripts : List Script) (history : List Entry) (seen : ℕ → List Ent
     where
       by : (s : Split history front Close) → Maker s.before s.entry → is_closed (journal_of s.before) ≡ false → Reason front
       by s (Clients script there right) open_ =
-          let line : IsAtLine s.entry.author script.lines (signed_journal s.before) order.Close = subst (IsRight s.entry.author script.lines s.before) s.is_event right in
+          let line : IsAtLine s.entry.author script.lines (signed_journal s.before) order.Close = subst (λ (e : Event). IsRight s.entry.author script.lines s.before e s.entry.answer) s.is_event right in
           let told : IsAtLine s.entry.author script.lines front order.Close =
           line_of s.entry.author s.entry.author script script s.before s.behind s.entry front order.Close s.whole s.is_front refl refl line in
           let closes : has_close script.lines ≡ true =

@@ -1,5 +1,5 @@
 -- What a client made.
-use Rattle.std.proofs.Common.{◌≡◌, ℕ, true, false, true≢false, ◌==◌, List, [], ◌∷◌, ◌++◌, map, sym, ◌∙◌, subst, append_assoc, append-nil}
+use Rattle.std.proofs.Common.{◌≡◌, ℕ, true, false, true≢false, ◌==◌, List, [], ◌∷◌, ◌++◌, map, refl, sym, ◌∙◌, subst, append_assoc, append-nil}
 use Rattle.std.proofs.lemmas.Bool.{eq-eqb}
 use Rattle.ask_history.specs.Journal.{is_closed}
 use Rattle.ask_history.specs.declared.script.Line.{Line}
@@ -30,4 +30,4 @@ pub right_settlings : (c : ℕ) (lines : List Line) (before : List Entry) (ticke
     → AreRight c lines before (map (closed_by c) tickets)
 right_settlings c lines before [] h = tt
 right_settlings c lines before (t ∷ tickets) h =
-    ((λ mine. h), right_settlings c lines (before ++ closed_by c t ∷ []) tickets (more_closed before (closed_by c t ∷ []) h))
+    ((λ mine. (h, refl)), right_settlings c lines (before ++ closed_by c t ∷ []) tickets (more_closed before (closed_by c t ∷ []) h))

@@ -1,8 +1,9 @@
 -- What a client did that played its script, and what all have done once the history is whole.
-use Rattle.std.specs.Prelude.{◌≡◌, ◌⊎◌, ⊤, ℕ, ◌+◌, true, List, [], ◌∷◌, ◌++◌, length, slice_get, option_and_then, Some, None}
+use Rattle.std.specs.Prelude.{◌≡◌, ◌⊎◌, ⊤, ℕ, ◌+◌, true, List, [], ◌∷◌, ◌++◌, length, slice_get, option_and_then, Option, Some, None}
 use mathlib.Core.List.{IsPrefix}
 use Rattle.ask_history.specs.Journal.{ticket_of, is_closed}
 use Rattle.ask_history.specs.declared.answers.Answer.{Answer}
+use Rattle.ask_history.specs.declared.answers.Answer.TheVariants as answer
 use Rattle.ask_history.specs.declared.events.Event.{Event}
 use Rattle.ask_history.specs.declared.events.Event.TheVariants.{Accept, Cancel, Close, Settle, Checked}
 use Rattle.ask_history.specs.declared.script.Order.TheVariants as order
@@ -14,20 +15,20 @@ use Rattle.client_scripts.specs.OfScripts.{is_finished}
 use Rattle.client_scripts.specs.History.{Entry, journal_of, signed_journal, answer_of, IsLater}
 
 -- An event that a client may make behind this history: that of a line of its script, behind what the lines above it wait for;
--- or, behind the shutdown, a settling.
-abbrev pub IsRight : ℕ → List Line → List Entry → Event → Type 0
-IsRight c lines before (Accept t client tag call) =
+-- or, behind the shutdown, a settling, with the answer that the session is shut down.
+abbrev pub IsRight : ℕ → List Line → List Entry → Event → Option Answer → Type 0
+IsRight c lines before (Accept t client tag call) found =
     (client ≡ c) × ((line : IsAtLine c lines (signed_journal before) (order.Call call)) × (tag ≡ next_number 1 line.above))
-IsRight c lines before (Cancel t) =
+IsRight c lines before (Cancel t) found =
     (tag : ℕ) × (ticket_of (signed_journal before) c tag ≡ Some t) × IsAtLine c lines (signed_journal before) (order.Cancel tag)
-IsRight c lines before Close = IsAtLine c lines (signed_journal before) order.Close
-IsRight c lines before (Settle t mark) = is_closed (journal_of before) ≡ true
-IsRight c lines before (Checked file) = ⊥
+IsRight c lines before Close found = IsAtLine c lines (signed_journal before) order.Close
+IsRight c lines before (Settle t mark) found = (is_closed (journal_of before) ≡ true) × (found ≡ Some answer.Closed)
+IsRight c lines before (Checked file) found = ⊥
 
 -- Of these entries, behind this history, each of the client's is right.
 abbrev pub AreRight : ℕ → List Line → List Entry → List Entry → Type 0
 AreRight c lines before [] = ⊤
-AreRight c lines before (entry ∷ entries) = (entry.author ≡ c → IsRight c lines before entry.event) × AreRight c lines (before ++ entry ∷ []) entries
+AreRight c lines before (entry ∷ entries) = (entry.author ≡ c → IsRight c lines before entry.event entry.answer) × AreRight c lines (before ++ entry ∷ []) entries
 
 -- Each entry of a client in a history is that of a line of its script.
 abbrev pub Runs : ℕ → List Line → List Entry → Type 0

@@ -1,5 +1,5 @@
 -- How calls and faults are counted.
-use Rattle.std.specs.Prelude.{ℕ, ◌+◌, ◌-◌, ◌^◌, min, Bool, false, Result, Ok, Err}
+use Rattle.std.specs.Prelude.{ℕ, ◌+◌, ◌-◌, ◌^◌, min, Bool, true, false, Result, Ok, Err}
 use Rattle.pc_outside.specs.declared.files.ReadRefused.{ReadRefused}
 use Rattle.pc_outside.specs.declared.files.ReadRefused.TheVariants.{Failed}
 use Rattle.pc_outside.specs.declared.sink.PutRefused.{PutRefused}
@@ -23,3 +23,8 @@ faults_after_put _ faults = faults
 abbrev pub whole_after_put : {V : Type 0} → Result V PutRefused → Bool → Bool
 whole_after_put (Ok done) whole = whole
 whole_after_put (Err e) whole = false
+
+-- the count of faults after a thread was asked for
+abbrev pub faults_after_spawn : Bool → ℕ → ℕ
+faults_after_spawn true faults = faults
+faults_after_spawn false faults = one_more faults

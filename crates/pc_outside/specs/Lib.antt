@@ -5,3 +5,5 @@ pub mod MemoryFiles
 pub mod MemorySink
 pub mod StdFiles
 pub mod WriterSink
+pub mod MemorySpawner
+pub mod ThreadSpawner

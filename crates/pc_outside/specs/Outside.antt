@@ -1,5 +1,5 @@
 -- What a call on a device does to what the device tells.
-use Rattle.std.specs.Prelude.{◌≡◌, ◌≤◌, ◌⊎◌, ℕ, ◌+◌, ◌-◌, ◌^◌, min, Bool, false, ◌++◌, take, Option, Some, None, Result, Ok, Err}
+use Rattle.std.specs.Prelude.{◌≡◌, ◌≤◌, ◌⊎◌, ℕ, ◌+◌, ◌-◌, ◌^◌, min, Bool, true, false, ◌++◌, take, Option, Some, None, Result, Ok, Err}
 use Rattle.pc_terms.specs.Bytes.{Bytes}
 use Rattle.pc_outside.specs.declared.files.ReadRefused.{ReadRefused}
 use Rattle.pc_outside.specs.declared.files.ReadRefused.TheVariants.{Failed, NoMemory}
@@ -36,3 +36,10 @@ abbrev pub PutCounts : {V : Type 0} → Result V PutRefused → ℕ → ℕ → 
 PutCounts (Ok done) before now whole whole' = (before ≤ now) × (whole' ≡ whole)
 PutCounts (Err put.Failed) before now whole whole' = Rose before now × (before ≤ now) × (whole' ≡ false)
 PutCounts (Err put.NoMemory) before now whole whole' = (before ≤ now) × (whole' ≡ false)
+
+-- ---- threads
+
+-- What asking for a thread does to the count of faults: where none could be had, it rose.
+abbrev pub SpawnCounts : Bool → ℕ → ℕ → Type 0
+SpawnCounts true before now = before ≤ now
+SpawnCounts false before now = Rose before now × (before ≤ now)

@@ -6,6 +6,7 @@ use Rattle.ask_history.specs.declared.calls.Call.TheVariants.{Reload}
 use Rattle.ask_history.specs.declared.script.Order.{Order}
 use Rattle.ask_history.specs.declared.script.Order.TheVariants as order
 use Rattle.ask_history.specs.declared.script.Line.{Line}
+use Rattle.ask_history.specs.declared.script.Script.{Script}
 use Rattle.script_text.specs.Words.{Bytes}
 
 -- the text of a path, where the sources have it, and else the path itself
@@ -25,3 +26,6 @@ order_with sources order = order
 
 abbrev pub line_with : List (Bytes × Bytes) → Line → Line
 line_with sources line = record line { order = order_with sources line.order }
+
+abbrev pub script_with : List (Bytes × Bytes) → Script → Script
+script_with sources script = record script { lines = map (line_with sources) script.lines }

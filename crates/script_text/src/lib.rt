@@ -19,4 +19,4 @@ pub use laws::law_one_reading;
 pub use numbering::line_number;
 pub use reading::{read_client, read_schedule};
 pub use refused::ScriptRefused;
-pub use texts::with_texts;
+pub use texts::{all_with_texts, with_texts};

@@ -93,6 +93,23 @@ fn line_with(
     })
 }
 
+fn script_with(
+    alloc: Global,
+    known: &IndexMap<Text, Text>,
+    sources: &[(Text, Text)],
+    script: Script,
+) -> Result<Script, NoMemory>
+    requires { Knows known.now sources.now }
+    ensures { IfOk result (λ found. found.lines ≡ map (spec.line_with sources.now) script.lines) }
+{
+    let Script { lines } = script;
+    let mut with_texts = Row::new(alloc);
+    for line in lines.into_vec() {
+        with_texts.push(line_with(alloc, known, sources, line)?)?;
+    }
+    Ok(Script { lines: with_texts })
+}
+
 /// The script with the text that `sources` has for each path in the path's place. Of several texts of one path the first
 /// counts; a path that `sources` lacks stays.
 pub fn with_texts(
@@ -104,10 +121,22 @@ pub fn with_texts(
 {
     let sources = sources.as_slice();
     let known = known_texts(alloc, sources)?;
-    let Script { lines } = script;
-    let mut with_texts = Row::new(alloc);
-    for line in lines.into_vec() {
-        with_texts.push(line_with(alloc, &known, sources, line)?)?;
+    script_with(alloc, &known, sources, script)
+}
+
+/// Several scripts with the texts of their paths, as `with_texts` gives each.
+pub fn all_with_texts(
+    alloc: Global,
+    scripts: Row<Script>,
+    sources: &Row<(Text, Text)>,
+) -> Result<Row<Script>, NoMemory>
+    ensures { IfOk result (λ found. found ≡ map (spec.script_with sources.now) scripts) }
+{
+    let sources = sources.as_slice();
+    let known = known_texts(alloc, sources)?;
+    let mut all = Row::new(alloc);
+    for script in scripts.into_vec() {
+        all.push(script_with(alloc, &known, sources, script)?)?;
     }
-    Ok(Script { lines: with_texts })
+    Ok(all)
 }
