@@ -11,26 +11,12 @@ use Rattle.source_grammar.specs.Spans.{labelled}
 use Rattle.parse_parts.specs.declared.built.Kids.{Kids}
 use Rattle.parse_parts.specs.declared.built.Tall.{Tall}
 use Rattle.parse_parts.specs.Built.{max_height, last, only, joined, alone, node}
+pub use Rattle.parse_parts.specs.Keeping.{keep, keep_all, kept, kept_all}
 
 pub last-append : (ts : List Tree) (t : Tree) → last (ts ++ t ∷ []) ≡ Some t
 last-append [] t = refl
 last-append (a ∷ []) t = refl
 last-append (a ∷ b ∷ ts) t = last-append (b ∷ ts) t
-
-abbrev pub keep : Bool → ℕ → Tree → Option Tall
-keep true h tree = Some (record { tree = tree; height = h })
-keep false h tree = None
-
-abbrev pub keep_all : Bool → ℕ → List Tree → Option Kids
-keep_all true h trees = Some (record { trees = trees; height = h })
-keep_all false h trees = None
-
--- the tree, where it is not too high
-abbrev pub kept : Tree → Option Tall
-kept tree = keep (nat_le (height tree) max_height) (height tree) tree
-
-abbrev pub kept_all : List Tree → Option Kids
-kept_all trees = keep_all (nat_le (highest trees) max_height) (highest trees) trees
 
 pub le-is : (a b : ℕ) → nat_le a b ≡ true → a ≤ b
 le-is a b e = grind (arith, nat_tests, e)

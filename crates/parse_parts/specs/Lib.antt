@@ -1,4 +1,5 @@
 pub mod Built
+pub mod Keeping
 pub mod Parting
 pub mod Reading
 pub mod Standing

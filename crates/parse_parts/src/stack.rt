@@ -2,7 +2,7 @@ ghost use Rattle.parse_parts.specs.Steps.{first};
 ghost use Rattle.std.specs.Option.{option_copied};
 ghost use Rattle.std.specs.Prelude.{◌≡◌, [], ◌∷◌, drop, length, MatchOption, OnOk, OnErr, IsTrue, ◌↔◌};
 
-use pc_terms::NoMemory;
+use pc_terms::{NoMemory, Row};
 use std::alloc::Global;
 use std::marker::Model;
 
@@ -30,6 +30,15 @@ impl<T> Stack<T> {
         Stack {
             items: Vec::new(alloc),
         }
+    }
+
+    /// The elements, the first on top. It takes no memory.
+    pub fn from_row(row: Row<T>) -> Stack<T>
+        ensures { result ≡ row }
+    {
+        let mut items = row.into_vec();
+        items.reverse();
+        Stack { items }
     }
 
     pub fn is_empty(&self) -> bool

@@ -1,15 +1,15 @@
 //! Reads the patterns of a source: what stands behind `case`, and before `<-`.
 #![tactic(auto)]
 
-mod admitting;
+pub mod admitting;
 mod laws;
-mod names;
-mod operators;
-mod patterns;
+pub mod names;
+pub mod operators;
+pub mod patterns;
 mod reader;
-mod states;
-mod steps;
-mod symbols;
+pub mod states;
+pub mod steps;
+pub mod symbols;
 
 pub use laws::{law_one_pattern, law_one_pattern_tree};
 pub use reader::parse_pattern;

@@ -39,8 +39,9 @@ fn is_comparison(name: &str) -> bool
     matches!(name.as_bytes(), b"<=" | b">=" | b"!=")
 }
 
+/// Whether an operator assigns (SLS 6.12.4).
 #[tactic(auto, unfolding(source_grammar::specs::Precedence::is_assignment))]
-fn is_assignment(name: &str) -> bool
+pub fn is_assignment(name: &str) -> bool
     ensures { result ≡ spec.is_assignment name.now }
 {
     let c = first_character(name);
@@ -92,8 +93,9 @@ fn is_quoted(token: Token) -> bool
     matches!(token.kind, TokenKind::BackId)
 }
 
+/// Whether a name alone is a variable.
 #[tactic(auto, unfolding(source_grammar::specs::Patterns::is_var))]
-fn is_variable(token: Token, word: &str) -> bool
+pub fn is_variable(token: Token, word: &str) -> bool
     ensures { result ≡ is_var (id_of (lexeme_with token word.now)) }
 {
     let c = first_character(word);

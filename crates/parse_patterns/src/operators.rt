@@ -50,13 +50,15 @@ pub fn settled(
     Ok(last)
 }
 
-fn goes_first(operation: &Operation, level: u32) -> bool
+/// Whether an operation goes before one of this level behind it.
+pub fn goes_first(operation: &Operation, level: u32) -> bool
     ensures { result ≡ spec.goes_first operation.now level }
 {
     level < operation.level || (operation.level == level && !operation.right)
 }
 
-fn one_goes(operations: &Stack<Operation>, level: u32) -> bool
+/// The same of the operation that waits last.
+pub fn one_goes(operations: &Stack<Operation>, level: u32) -> bool
     ensures { result ≡ spec.one_goes operations.now level }
 {
     match operations.top() {

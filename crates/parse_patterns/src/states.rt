@@ -6,7 +6,7 @@ use parse_parts::states::{Count, Path, State as TypeState};
 use pc_terms::Span;
 use positioned_trees::Name;
 
-/// A pattern, with its tree where this is not too high. The span has the parentheses around it too.
+/// An operand, with its tree where this is not too high. The span has the parentheses around it too.
 #[derive(Debug, Drop)]
 pub struct Operand {
     pub tall: Option<Tall>,

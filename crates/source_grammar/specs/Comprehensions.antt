@@ -48,10 +48,10 @@ hidden_step layer = roll-Tree (record {
   label = layer.label;
   label_span = layer.label_span;
   kids = layer.kids;
-  detail = layer.detail;
+  detail = detail.Plain;
 })
 
--- A later copy of a pattern: nothing in it is opaque.
+-- A later copy of a pattern: nothing in it is opaque. No pattern says more than its kind, its label and its kids.
 unfoldable pub hidden : Tree → Tree
 hidden = fold-Tree Tree hidden_step
 

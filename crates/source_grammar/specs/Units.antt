@@ -18,7 +18,7 @@ use Rattle.positioned_trees.specs.Located.{max_height}
 use Rattle.positioned_trees.specs.Trees.{height, all_trees, numbered}
 use Rattle.scan_tokens.specs.Scanned.{scanned}
 use Rattle.scan_tokens.specs.Words.{Bytes}
-use Rattle.source_grammar.specs.Brackets.{separates, unmatched, most_open}
+use Rattle.source_grammar.specs.Brackets.{is_semicolon, separates, unmatched, most_open}
 use Rattle.source_grammar.specs.DefinitionTrees.{names_of, import_tree}
 use Rattle.source_grammar.specs.Expressions.{Sep}
 use Rattle.source_grammar.specs.ExpressionTokens.{sep_tokens}
@@ -57,10 +57,16 @@ abbrev pub begins_apart : List Lexeme → Bool
 begins_apart [] = false
 begins_apart (x ∷ xs) = separates x
 
+abbrev pub begins_with_semicolon : List Lexeme → Bool
+begins_with_semicolon [] = false
+begins_with_semicolon (x ∷ xs) = is_semicolon x
+
+-- the separator of a clause takes all semicolons that stand there
 abbrev pub ProperPackages : List PackageClause → List Lexeme → Type 0
 ProperPackages [] after = Unit {0}
 ProperPackages (clause ∷ clauses) after =
-    (begins_apart (sep_tokens clause.sep ++ packages_tokens clauses ++ after) ≡ true) × ProperPackages clauses after
+    (begins_apart (sep_tokens clause.sep ++ packages_tokens clauses ++ after) ≡ true)
+    × (begins_with_semicolon (packages_tokens clauses ++ after) ≡ false) × ProperPackages clauses after
 
 -- no package clause with its separator begins these tokens
 abbrev pub HasNoPackage : List Lexeme → Type 0

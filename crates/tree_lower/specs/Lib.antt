@@ -1,0 +1,3 @@
+pub mod Comprehending
+pub mod Keeping
+pub mod Lowering
