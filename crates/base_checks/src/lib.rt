@@ -8,3 +8,5 @@ mod files;
 mod sinks;
 #[cfg(test)]
 mod terms;
+#[cfg(test)]
+mod threads;
