@@ -8,5 +8,3 @@ mod files;
 mod sinks;
 #[cfg(test)]
 mod terms;
-#[cfg(test)]
-mod threads;
