@@ -30,12 +30,12 @@ in_accepted content limit of name bytes = by (nat_lt (most_of limit) (length byt
   by false false (inl wrong) = cc
   by false false (inr wrong) = cc
 
-in_text : (content : Bytes → Option Bytes) (limit : Limit) (of name : Bytes) → ComesTo {A = Bytes} content (text_reading limit of) (Err (Refused (refusal.ReadFault name))) → name ≡ of
+pub in_text : (content : Bytes → Option Bytes) (limit : Limit) (of name : Bytes) → ComesTo {A = Bytes} content (text_reading limit of) (Err (Refused (refusal.ReadFault name))) → name ≡ of
 in_text content limit of name (inl (inl same)) = cc
 in_text content limit of name (inl (inr wrong)) = cc
 in_text content limit of name (inr (bytes, begins, comes)) = absurd (in_accepted content limit of name bytes comes)
 
-in_lines : (content : Bytes → Option Bytes) (of name : Bytes) (read : Result (List Line) ℕ) → ComesTo {A = List Line} content (lines_or_bad of read) (Err (Refused (refusal.ReadFault name))) → ⊥
+pub in_lines : (content : Bytes → Option Bytes) (of name : Bytes) (read : Result (List Line) ℕ) → ComesTo {A = List Line} content (lines_or_bad of read) (Err (Refused (refusal.ReadFault name))) → ⊥
 in_lines content of name (Ok lines) (inl wrong) = cc
 in_lines content of name (Ok lines) (inr wrong) = cc
 in_lines content of name (Err number) (inl wrong) = cc
@@ -49,7 +49,7 @@ in_limits content name lines = by (passed_by lines) where
   by (Some (limit, value)) (inl wrong) = cc
   by (Some (limit, value)) (inr wrong) = cc
 
-in_sources : (content : Bytes → Option Bytes) (name : Bytes) (pairs : List (Bytes × Bytes)) (before : Sources)
+pub in_sources : (content : Bytes → Option Bytes) (name : Bytes) (pairs : List (Bytes × Bytes)) (before : Sources)
     → ComesTo {A = Sources} content (sources_reading before pairs) (Err (Refused (refusal.ReadFault name))) → IsPathIn pairs name
 in_sources content name [] before (inl wrong) = cc
 in_sources content name [] before (inr wrong) = cc

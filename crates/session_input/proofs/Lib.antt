@@ -1,7 +1,9 @@
+pub mod ClientLemmas
 pub mod CountLemmas
 pub mod FaultLemmas
 pub mod InputLemmas
 pub mod PairLemmas
 pub mod ReadLemmas
+pub mod ScriptLemmas
 pub mod SourceLemmas
 pub mod TextLemmas

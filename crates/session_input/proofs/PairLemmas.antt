@@ -90,6 +90,24 @@ pairs_lines kind (bytes ∷ pieces) above all (inr (line, here, rest)) = omega (
 pub pairs_in_script : (kind : ScriptKind) (text : Bytes) (lines : List Line) → IsScript kind text lines → length (pairs_in lines) ≤ length text
 pairs_in_script kind text lines is = omega (arith, pairs_lines kind (lines_of text) [] lines is, split-bytes line_feed text)
 
+-- ---- how many lines
+
+split-length : (separator : ℕ) (bs : Bytes) → length (split separator bs) ≤ length bs + 1
+split-length separator [] = omega arith
+split-length separator (b ∷ bs) = by (b == separator) (split separator bs) (split-length separator bs) where
+  by : (same : Bool) (pieces : List Bytes) → length pieces ≤ length bs + 1 → length (cond same ([] ∷ pieces) (onto_first b pieces)) ≤ length (b ∷ bs) + 1
+  by true pieces within = omega arith
+  by false [] within = omega arith
+  by false (piece ∷ pieces) within = omega arith
+
+counted_lines : (kind : ScriptKind) (pieces : List Bytes) (above all : List Line) → AreLines kind above pieces all → length all ≤ length above + length pieces
+counted_lines kind [] above all same = let e = ap length same in omega arith
+counted_lines kind (bytes ∷ pieces) above all (inl (passed, rest)) = omega (arith, counted_lines kind pieces above all rest)
+counted_lines kind (bytes ∷ pieces) above all (inr (line, here, rest)) = omega (arith, counted_lines kind pieces (above ++ line ∷ []) all rest, length-append above (line ∷ []))
+
+pub lines_in_script : (kind : ScriptKind) (text : Bytes) (lines : List Line) → IsScript kind text lines → length lines ≤ length text + 1
+lines_in_script kind text lines is = omega (arith, counted_lines kind (lines_of text) [] lines is, split-length line_feed text)
+
 -- ---- the names of files
 
 name_of_file : (name : Bytes) → is_name name ≡ true → is_file_name name ≡ true

@@ -14,9 +14,9 @@ use Rattle.session_input.specs.Counts.{HaveTexts}
 use Rattle.work_queue.proofs.Usages.{bytes_eq_refl}
 use Rattle.std.proofs.lemmas.List.Folds.{list_any-append}
 use Rattle.session_input.specs.declared.refusal.Refusal.TheVariants as refusal
-use Rattle.session_input.specs.Reads.{Gives, Refuses, then_reads, ComesTo}
+use Rattle.session_input.specs.Reads.{Reading, Gives, Refuses, then_reads, ComesTo}
 use Rattle.session_input.specs.Sources.{text_reading, pairs_of, pairs_in, sources_reading}
-use Rattle.session_input.specs.Leads.{LeadsOn, EndsAt}
+use Rattle.session_input.specs.Leads.{Leads, Ends, LeadsOn, EndsAt}
 use Rattle.session_input.specs.declared.limits.Limit.TheVariants.{FileBytes}
 use Rattle.session_input.specs.declared.refusal.NoInput.{NoInput}
 use Rattle.session_input.specs.declared.refusal.NoInput.TheVariants.{NoMemory}
@@ -27,31 +27,35 @@ use Rattle.session_input.proofs.ReadLemmas.{comes_to-then_ok, comes_to-then_err,
 
 -- ---- parts of a reading, one after another
 
-pub leads-none : (content : Bytes → Option Bytes) (sources : Sources) → LeadsOn content sources sources []
-leads-none content sources = record { leads = λ rest result comes. comes }
+pub leads-none : {S X : Type 0} (reading : S → List X → Reading S) (content : Bytes → Option Bytes) (old : S) → Leads reading content old old []
+leads-none reading content old = record { leads = λ rest result comes. comes }
 
-pub leads-more : {content : Bytes → Option Bytes} {old mid new : Sources} {xs ys : List (Bytes × Bytes)}
-    → LeadsOn content old mid xs → LeadsOn content mid new ys → LeadsOn content old new (xs ++ ys)
+pub leads-more : {S X : Type 0} {reading : S → List X → Reading S} {content : Bytes → Option Bytes} {old mid new : S} {xs ys : List X}
+    → Leads reading content old mid xs → Leads reading content mid new ys → Leads reading content old new (xs ++ ys)
 leads-more {ys = ys} first second = record { leads = λ rest result comes. rw append_assoc (first.leads (ys ++ rest) result (second.leads rest result comes)) }
 
-pub ends-more : {content : Bytes → Option Bytes} {old mid : Sources} {xs ys : List (Bytes × Bytes)} {none : NoInput}
-    → LeadsOn content old mid xs → EndsAt content mid ys none → EndsAt content old (xs ++ ys) none
+pub ends-more : {S X : Type 0} {reading : S → List X → Reading S} {content : Bytes → Option Bytes} {old mid : S} {xs ys : List X} {none : NoInput}
+    → Leads reading content old mid xs → Ends reading content mid ys none → Ends reading content old (xs ++ ys) none
 ends-more {ys = ys} {none = none} first second = record { ends = λ rest. rw append_assoc (first.leads (ys ++ rest) (Err none) (second.ends rest)) }
 
-pub ends-before : {content : Bytes → Option Bytes} {old : Sources} {xs : List (Bytes × Bytes)} (ys : List (Bytes × Bytes)) {none : NoInput}
-    → EndsAt content old xs none → EndsAt content old (xs ++ ys) none
+pub ends-before : {S X : Type 0} {reading : S → List X → Reading S} {content : Bytes → Option Bytes} {old : S} {xs : List X} (ys : List X) {none : NoInput}
+    → Ends reading content old xs none → Ends reading content old (xs ++ ys) none
 ends-before ys ends = record { ends = λ rest. rw append_assoc (ends.ends (ys ++ rest)) }
 
--- the whole of a reading that was gone through part by part
-pub led : {content : Bytes → Option Bytes} {new : Sources} {pairs all : List (Bytes × Bytes)} → pairs ≡ all
-    → LeadsOn content [] new pairs → ComesTo content (sources_reading [] all) (Ok new)
-led {content = content} {new = new} {pairs = pairs} same leads =
-    subst (λ (ps : List (Bytes × Bytes)). ComesTo content (sources_reading [] ps) (Ok new)) (append-nil pairs ∙ same) (leads.leads [] (Ok new) (inl refl))
+-- memory may run out at any part
+pub ends-nothing : {S X : Type 0} (reading : S → List X → Reading S) (content : Bytes → Option Bytes) (old : S) (xs : List X) → Ends reading content old xs NoMemory
+ends-nothing reading content old xs = record { ends = λ rest. comes_to-no_memory content (reading old (xs ++ rest)) }
 
-pub ended : {content : Bytes → Option Bytes} {pairs all : List (Bytes × Bytes)} {none : NoInput} → pairs ≡ all
-    → EndsAt content [] pairs none → ComesTo {A = Sources} content (sources_reading [] all) (Err none)
-ended {content = content} {pairs = pairs} {none = none} same ends =
-    subst (λ (ps : List (Bytes × Bytes)). ComesTo {A = Sources} content (sources_reading [] ps) (Err none)) (append-nil pairs ∙ same) (ends.ends [])
+-- the whole of a reading that was gone through part by part, where nothing left gives what was read
+pub led : {S X : Type 0} {reading : S → List X → Reading S} {content : Bytes → Option Bytes} {old new : S} {xs all : List X} → ComesTo content (reading new []) (Ok new) → xs ≡ all
+    → Leads reading content old new xs → ComesTo content (reading old all) (Ok new)
+led {reading = reading} {content = content} {old = old} {new = new} {xs = xs} gives same leads =
+    subst (λ ys. ComesTo content (reading old ys) (Ok new)) (append-nil xs ∙ same) (leads.leads [] (Ok new) gives)
+
+pub ended : {S X : Type 0} {reading : S → List X → Reading S} {content : Bytes → Option Bytes} {old : S} {xs all : List X} {none : NoInput} → xs ≡ all
+    → Ends reading content old xs none → ComesTo {A = S} content (reading old all) (Err none)
+ended {S = S} {reading = reading} {content = content} {old = old} {xs = xs} {none = none} same ends =
+    subst (λ ys. ComesTo {A = S} content (reading old ys) (Err none)) (append-nil xs ∙ same) (ends.ends [])
 
 -- ---- one source
 

@@ -13,7 +13,7 @@ use Rattle.work_queue.specs.Reloads.{longest, usage_of}
 use Rattle.session_input.specs.Limits.{most_of}
 use Rattle.session_input.specs.Sources.{pairs_in}
 use Rattle.session_input.specs.declared.limits.Limit.{Limit}
-use Rattle.session_input.specs.declared.limits.Limit.TheVariants.{Calls, Text, Names, Map}
+use Rattle.session_input.specs.declared.limits.Limit.TheVariants.{Clients, ScriptBytes, Calls, Text, Names, Map}
 use Rattle.session_input.specs.declared.counts.Counts.{Counts}
 
 -- a number that is above its limit, with the limit
@@ -46,6 +46,10 @@ pub record HasRoom (texts : ℕ) (usage : Usage) : Type 0 where
 pub record CountsMore (pairs : List (Bytes × Bytes)) (old new : Counts) : Type 0 where
   pub counted : (before : List (Bytes × Bytes)) → AreCounted before old → AreCounted (before ++ pairs) new
   pub room : (texts : ℕ) → HasRoom (length pairs + texts) old.usage → HasRoom texts new.usage
+
+-- so many pairs have the scripts of as many clients as there may be, since each names no more than it has bytes
+abbrev pub most_pairs : ℕ
+most_pairs = most_of Clients * most_of ScriptBytes
 
 -- each of these pairs has a text that is no longer than a file may be
 abbrev pub HaveTexts : Sources → List (Bytes × Bytes) → Type 0

@@ -10,7 +10,8 @@ use Rattle.session_input.specs.Counts.{passed_by}
 use Rattle.session_input.specs.declared.limits.Limit.{Limit}
 use Rattle.session_input.specs.declared.refusal.Refusal.TheVariants as refusal
 
-abbrev pub unless_passed : List Line → Option (Limit × ℕ) → Reading (List Line)
+-- what was read, where no limit is passed
+abbrev pub unless_passed : {A : Type 0} → A → Option (Limit × ℕ) → Reading A
 unless_passed lines None = Gives lines
 unless_passed lines (Some passed) = Refuses (refusal.Limit passed.0 passed.1)
 

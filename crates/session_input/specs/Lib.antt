@@ -1,3 +1,4 @@
+pub mod Clients
 pub mod Counts
 pub mod Faults
 pub mod Input

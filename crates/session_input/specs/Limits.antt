@@ -2,9 +2,10 @@
 use Rattle.std.specs.Prelude.{ℕ}
 use Rattle.pc_terms.specs.Bytes.{max_source_bytes}
 use Rattle.session_input.specs.declared.limits.Limit.{Limit}
-use Rattle.session_input.specs.declared.limits.Limit.TheVariants.{FileBytes, ScriptBytes, Calls, Text, Names, Map}
+use Rattle.session_input.specs.declared.limits.Limit.TheVariants.{Clients, FileBytes, ScriptBytes, Calls, Text, Names, Map}
 
 abbrev pub most_of : Limit → ℕ
+most_of Clients = 32
 most_of FileBytes = max_source_bytes
 most_of ScriptBytes = 4194304
 most_of Calls = 65536

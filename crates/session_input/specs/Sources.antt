@@ -8,6 +8,7 @@ use Rattle.ask_history.specs.Engine.{has_file_names}
 use Rattle.ask_history.specs.declared.script.Order.{Order}
 use Rattle.ask_history.specs.declared.script.Order.TheVariants as order
 use Rattle.ask_history.specs.declared.script.Line.{Line}
+use Rattle.ask_history.specs.declared.script.Script.{Script}
 use Rattle.script_text.specs.declared.kinds.ScriptKind.{ScriptKind}
 use Rattle.script_text.specs.Reading.{lines_read}
 use Rattle.work_queue.specs.Reloads.{reloaded_by}
@@ -47,6 +48,10 @@ pairs_of _ = []
 
 abbrev pub pairs_in : List Line → List (Bytes × Bytes)
 pairs_in lines = flat_map (λ line. pairs_of line.order) lines
+
+-- the lines of several scripts, one script after the other
+abbrev pub lines_in : List Script → List Line
+lines_in scripts = flat_map (λ script. script.lines) scripts
 
 abbrev pub order_names_files : Order → Bool
 order_names_files (order.Call call) = has_file_names call

@@ -4,6 +4,8 @@ ghost use Rattle.session_input.specs.Limits as spec;
 /// What is counted against a limit.
 #[derive(Clone, Copy, Debug, PartialEq, Eq)]
 pub enum Limit {
+    /// Scripts of clients.
+    Clients,
     /// Bytes of a source.
     FileBytes,
     /// Bytes of a script.
@@ -22,6 +24,7 @@ pub fn most_of(limit: Limit) -> u64
     ensures { result ≡ spec.most_of limit }
 {
     match limit {
+        Limit::Clients => 32,
         Limit::FileBytes => 262_144,
         Limit::ScriptBytes => 4_194_304,
         Limit::Calls => 65_536,

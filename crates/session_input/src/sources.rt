@@ -5,11 +5,11 @@ ghost use Rattle.ask_history.specs.Sources.{is_loaded};
 ghost use Rattle.session_input.specs.Faults.{CountsFaults};
 ghost use Rattle.session_input.specs.Leads.{LeadsOn, EndsAt};
 ghost use Rattle.session_input.specs.Reads.{ComesTo};
-ghost use Rattle.session_input.specs.Sources.{pairs_of, pairs_in, sources_reading};
+ghost use Rattle.session_input.specs.Sources.{pairs_of, pairs_in, lines_in, sources_reading};
 
 use crate::texts::read_text;
 use crate::{Limit, NoInput};
-use ask_history::{Call, Line, Order};
+use ask_history::{Call, Line, Order, Script};
 use indexmap::IndexMap;
 use pc_outside::Files;
 use pc_terms::{NoMemory, Text};
@@ -67,7 +67,7 @@ fn read_source<F: Files>(
     }
 }
 
-// Reads the sources of one line.
+// Reads the sources of one line's pairs.
 fn read_sources_of<F: Files>(
     alloc: Global,
     files: &mut F,
@@ -89,6 +89,28 @@ fn read_sources_of<F: Files>(
     Ok(())
 }
 
+// Reads the sources of lines.
+fn read_sources_in<F: Files>(
+    alloc: Global,
+    files: &mut F,
+    sources: &mut IndexMap<Text, Text>,
+    lines: &[Line],
+) -> Result<(), NoInput>
+    ensures comes { MatchResult result
+        (λ done. LeadsOn (F.content files.old) sources.old.entries sources.new.entries (pairs_in lines.now))
+        (λ none. EndsAt (F.content files.old) sources.old.entries (pairs_in lines.now) none) }
+    ensures content { (other : List ℕ) → F.content files.new other ≡ F.content files.old other }
+    ensures counts { CountsFaults result (F.faults files.old) (F.faults files.new) (F.last_failed files.new) }
+{
+    for line in lines {
+        match read_sources_of(alloc, files, sources, pairs_of(&line.order)) {
+            Ok(()) => {}
+            Err(none) => return Err(none),
+        }
+    }
+    Ok(())
+}
+
 /// The texts of the paths that the lines name, in the order in which they are named first. Each is read once.
 pub fn read_sources<F: Files>(
     alloc: Global,
@@ -102,8 +124,27 @@ pub fn read_sources<F: Files>(
     ensures counts { CountsFaults result (F.faults files.old) (F.faults files.new) (F.last_failed files.new) }
 {
     let mut sources = IndexMap::new(alloc);
-    for line in lines {
-        match read_sources_of(alloc, files, &mut sources, pairs_of(&line.order)) {
+    match read_sources_in(alloc, files, &mut sources, lines) {
+        Ok(()) => Ok(sources),
+        Err(none) => Err(none),
+    }
+}
+
+/// The texts of the paths that several scripts name, as `read_sources` gives those of one.
+pub fn read_all_sources<F: Files>(
+    alloc: Global,
+    files: &mut F,
+    scripts: &[Script],
+) -> Result<IndexMap<Text, Text>, NoInput>
+    ensures comes { MatchResult result
+        (λ sources. ComesTo (F.content files.old) (sources_reading [] (pairs_in (lines_in scripts.now))) (Ok sources.entries))
+        (λ none. ComesTo (F.content files.old) (sources_reading [] (pairs_in (lines_in scripts.now))) (Err none)) }
+    ensures content { (other : List ℕ) → F.content files.new other ≡ F.content files.old other }
+    ensures counts { CountsFaults result (F.faults files.old) (F.faults files.new) (F.last_failed files.new) }
+{
+    let mut sources = IndexMap::new(alloc);
+    for script in scripts {
+        match read_sources_in(alloc, files, &mut sources, script.lines.as_slice()) {
             Ok(()) => {}
             Err(none) => return Err(none),
         }

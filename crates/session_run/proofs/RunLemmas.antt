@@ -37,6 +37,7 @@ read_as_played content schedule lines ending.Done ends read = read
 read_as_played content schedule lines ending.WriteFault ends read = read
 read_as_played content schedule lines ending.NoMemory ends read = read
 read_as_played content schedule lines ending.Usage ends read = absurd ends
+read_as_played content schedule lines ending.SpawnFault ends read = absurd ends
 read_as_played content schedule lines (ending.Refused why) ends read = absurd ends
 
 no_fault_played : (ended : Ending) (before now : ℕ) (last : Option Bytes) → IsSessionEnding ended → RoseAsTold ended before now last
@@ -44,6 +45,7 @@ no_fault_played ending.Done before now last ends = tt
 no_fault_played ending.WriteFault before now last ends = tt
 no_fault_played ending.NoMemory before now last ends = tt
 no_fault_played ending.Usage before now last ends = absurd ends
+no_fault_played ending.SpawnFault before now last ends = absurd ends
 no_fault_played (ending.Refused why) before now last ends = absurd ends
 
 no_name_played : (content : Bytes → Option Bytes) (schedule : Bytes) (ended : Ending) → IsSessionEnding ended → NamesReadFile content schedule ended
@@ -51,6 +53,7 @@ no_name_played content schedule ending.Done ends = tt
 no_name_played content schedule ending.WriteFault ends = tt
 no_name_played content schedule ending.NoMemory ends = tt
 no_name_played content schedule ending.Usage ends = absurd ends
+no_name_played content schedule ending.SpawnFault ends = absurd ends
 no_name_played content schedule (ending.Refused why) ends = absurd ends
 
 completes_played : (content : Bytes → Option Bytes) (words : List Bytes) (seen : Seen) (ended : Ending) → IsSessionEnding ended → HasWriteFault ended seen.put_faults seen.put_faults' → Completes content words seen ended
@@ -58,6 +61,7 @@ completes_played content words seen ending.Done ends writing = λ lines alone is
 completes_played content words seen ending.WriteFault ends writing = λ lines alone is reads puts. absurd (puts writing)
 completes_played content words seen ending.NoMemory ends writing = λ lines alone is reads puts. inr refl
 completes_played content words seen ending.Usage ends writing = absurd ends
+completes_played content words seen ending.SpawnFault ends writing = absurd ends
 completes_played content words seen (ending.Refused why) ends writing = absurd ends
 
 pub run_played : (answer_of : Sources → Call → Answer) (problems_of : Sources → Bytes → List Problem) (content : Bytes → Option Bytes) (words : List Bytes) (seen : Seen) (lines : List Line) (ended : Ending) (journal : List Event)
@@ -92,12 +96,16 @@ no_output Bad content schedule ending.Done out input = let e = input.1 in cc
 no_output Alone content schedule ending.WriteFault out input = absurd input
 no_output Threads content schedule ending.WriteFault out input = let e = input.1 in cc
 no_output Bad content schedule ending.WriteFault out input = let e = input.1 in cc
+no_output Alone content schedule ending.SpawnFault out input = absurd input
+no_output Threads content schedule ending.SpawnFault out input = let e = input.1 in cc
+no_output Bad content schedule ending.SpawnFault out input = let e = input.1 in cc
 
 no_write_fault : (mode : Mode) (content : Bytes → Option Bytes) (schedule : Bytes) (ended : Ending) (before now : ℕ) → HasInput mode content schedule None ended → HasWriteFault ended before now
 no_write_fault mode content schedule ending.Usage before now input = tt
 no_write_fault mode content schedule (ending.Refused why) before now input = tt
 no_write_fault mode content schedule ending.NoMemory before now input = tt
 no_write_fault mode content schedule ending.Done before now input = tt
+no_write_fault mode content schedule ending.SpawnFault before now input = tt
 no_write_fault Alone content schedule ending.WriteFault before now input = absurd input
 no_write_fault Threads content schedule ending.WriteFault before now input = let e = input.1 in cc
 no_write_fault Bad content schedule ending.WriteFault before now input = let e = input.1 in cc
@@ -112,9 +120,10 @@ names_refused mode content schedule (ending.Refused (refusal.NotUtf8 name byte))
 names_refused mode content schedule ending.Done input = tt
 names_refused mode content schedule ending.Usage input = tt
 names_refused mode content schedule ending.WriteFault input = tt
+names_refused mode content schedule ending.SpawnFault input = tt
 names_refused mode content schedule ending.NoMemory input = tt
 
-risen_for : (why : Refusal) (before now : ℕ) (last : Option Bytes) → (name : Bytes) × (why ≡ refusal.ReadFault name) → RoseIfFault why before now last → Rose before now
+pub risen_for : (why : Refusal) (before now : ℕ) (last : Option Bytes) → (name : Bytes) × (why ≡ refusal.ReadFault name) → RoseIfFault why before now last → Rose before now
 risen_for why before now last (name, is) rose = (subst (λ (w : Refusal). RoseIfFault w before now last) is rose).0
 
 completes_refused : (content : Bytes → Option Bytes) (words : List Bytes) (seen : Seen) (ended : Ending) → HasInput (mode_of words) content (schedule_of words) None ended
@@ -123,6 +132,7 @@ completes_refused content words seen ending.Done input reading = λ lines alone 
 completes_refused content words seen ending.NoMemory input reading = λ lines alone is reads puts. inr refl
 completes_refused content words seen ending.WriteFault input reading = λ lines alone is reads puts. absurd (subst (λ (m : Mode). HasInput m content (schedule_of words) None ending.WriteFault) alone input)
 completes_refused content words seen ending.Usage input reading = λ lines alone is reads puts. absurd (subst (λ (m : Mode). HasInput m content (schedule_of words) None ending.Usage) alone input)
+completes_refused content words seen ending.SpawnFault input reading = λ lines alone is reads puts. absurd (subst (λ (m : Mode). HasInput m content (schedule_of words) None ending.SpawnFault) alone input)
 completes_refused content words seen (ending.Refused why) input reading = λ lines alone is reads puts.
     let refused = subst (λ (m : Mode). HasInput m content (schedule_of words) None (ending.Refused why)) alone input in
     absurd (reads (risen_for why seen.read_faults seen.read_faults' seen.last_failed' (fault_or_told content (schedule_reading (schedule_of words)) lines why is refused) reading.1))
@@ -163,6 +173,7 @@ still_run answer_of problems_of content words seen ending.Done telling journal s
 still_run answer_of problems_of content words seen ending.Usage telling journal same run = subst (λ (e : Ending). IsRun answer_of problems_of content words seen e journal) (sym same) run
 still_run answer_of problems_of content words seen ending.WriteFault telling journal same run = subst (λ (e : Ending). IsRun answer_of problems_of content words seen e journal) (sym same) run
 still_run answer_of problems_of content words seen ending.NoMemory telling journal same run = subst (λ (e : Ending). IsRun answer_of problems_of content words seen e journal) (sym same) run
+still_run answer_of problems_of content words seen ending.SpawnFault telling journal same run = subst (λ (e : Ending). IsRun answer_of problems_of content words seen e journal) (sym same) run
 still_run answer_of problems_of content words seen (ending.Refused why) telling journal (inl same) run = subst (λ (e : Ending). IsRun answer_of problems_of content words seen e journal) (sym same) run
 still_run answer_of problems_of content words seen (ending.Refused why) telling journal (inr none) run =
     subst (λ (e : Ending). IsRun answer_of problems_of content words seen e journal) (sym none) (record {

@@ -74,6 +74,7 @@ session_ends whole ending.Done ends = refl
 session_ends whole ending.WriteFault ends = refl
 session_ends whole ending.NoMemory ends = tt
 session_ends whole ending.Usage ends = absurd ends
+session_ends whole ending.SpawnFault ends = absurd ends
 session_ends whole (ending.Refused why) ends = absurd ends
 
 session_ran : (lines : List Line) (whole : Bool) (ended : Ending) (journal : List Event) → EndsSession whole ended → (whole ≡ true → IsWhole lines journal) → (whole ≡ false → IsCutShort lines journal)
@@ -83,6 +84,7 @@ session_ran lines whole ending.WriteFault journal ends all cut = all ends
 session_ran lines true ending.NoMemory journal ends all cut = inl (all refl)
 session_ran lines false ending.NoMemory journal ends all cut = inr (cut refl)
 session_ran lines whole ending.Usage journal ends all cut = absurd ends
+session_ran lines whole ending.SpawnFault journal ends all cut = absurd ends
 session_ran lines whole (ending.Refused why) journal ends all cut = absurd ends
 
 -- nothing more is a prefix

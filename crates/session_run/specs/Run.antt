@@ -22,11 +22,13 @@ status_of ending.Done = 0
 status_of ending.Usage = 2
 status_of (ending.Refused why) = refusal_status why
 status_of ending.WriteFault = 5
+status_of ending.SpawnFault = 6
 status_of ending.NoMemory = 7
 
 -- ---- the line for the user
 
 abbrev pub limit_name : Limit → Bytes
+limit_name limit.Clients = codes "Clients"
 limit_name limit.FileBytes = codes "FileBytes"
 limit_name limit.ScriptBytes = codes "ScriptBytes"
 limit_name limit.Calls = codes "Calls"
@@ -57,4 +59,5 @@ line_text ending.Done = []
 line_text ending.Usage = codes "usage: batch NAME... or step SCHEDULE or replay CLIENT..." ++ line_end
 line_text (ending.Refused why) = refusal_text why
 line_text ending.WriteFault = codes "write fault" ++ line_end
+line_text ending.SpawnFault = codes "spawn fault" ++ line_end
 line_text ending.NoMemory = codes "no memory" ++ line_end

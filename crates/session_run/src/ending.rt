@@ -11,6 +11,8 @@ pub enum Ending {
     Refused(Refusal),
     /// The output could not be written; a part of it may stand there.
     WriteFault,
+    /// No threads could be had for clients. The session was shut down before any call.
+    SpawnFault,
     /// No memory was found. A part of the output may stand there.
     NoMemory,
 }

@@ -1,4 +1,4 @@
-//! A run on one thread, from the words of the command line to its status.
+//! A run on one thread, from the words of the command line to its status; and what other runs share of it.
 #![tactic(auto)]
 
 mod alone;
@@ -17,3 +17,5 @@ pub use ending::Ending;
 pub use modes::{Mode, mode_of};
 pub use report::Report;
 pub use reporter::SinkReporter;
+pub use session::{Kept, unbegun, write_printed};
+pub use telling::{status_of, tell};

@@ -1,19 +1,19 @@
 //! Plays a session, and writes what is printed of it.
 
-ghost use Rattle.std.specs.Prelude.{◌≡◌, []};
+ghost use Rattle.std.specs.Prelude.{◌≡◌, ℕ, List, [], IfOk};
 ghost use Rattle.ask_history.specs.Engine.{fresh_state};
 ghost use Rattle.report_hub.specs.Hub.{IsSameBox};
 ghost use Rattle.schedule_player.specs.Owed.{CanPlayAll};
 ghost use Rattle.session_run.specs.Printed.{session_of, Wrote};
 ghost use Rattle.session_run.specs.Reading.{HasWriteFault};
-ghost use Rattle.session_run.specs.Session.{EndsSession, SessionOwes};
+ghost use Rattle.session_run.specs.Session.{EndsSession, IsSessionEnding, SessionOwes};
 
 use crate::Ending;
 use crate::reported::play_reported;
 use crate::shown::{print_played, shown_lines};
 use ask_history::{Engine, Journal, Line};
 use pc_outside::{PutRefused, Sink};
-use pc_terms::{NoMemory, Row};
+use pc_terms::{NoMemory, Row, Text};
 use report_hub::Reporter;
 use schedule_player::Played;
 use std::alloc::Global;
@@ -24,6 +24,22 @@ pub struct Kept {
     pub ending: Ending,
     pub journal: Journal,
     pub reporter: Box<dyn Reporter + Send>,
+}
+
+/// Writes what is printed of a session, where there was memory for it.
+pub fn write_printed<O: Sink>(out: &mut O, printed: Result<Text, NoMemory>) -> Ending
+    ensures ends { IsSessionEnding result }
+    ensures wrote { (text : List ℕ) → IfOk printed (λ given. given ≡ text) → Wrote text result (O.written out.old) (O.written out.new) }
+    ensures counts { HasWriteFault result (O.faults out.old) (O.faults out.new) }
+{
+    match printed {
+        Err(NoMemory {}) => Ending::NoMemory,
+        Ok(text) => match out.put(text.as_str().as_bytes()) {
+            Ok(()) => Ending::Done,
+            Err(PutRefused::Failed) => Ending::WriteFault,
+            Err(PutRefused::NoMemory) => Ending::NoMemory,
+        },
+    }
 }
 
 // Writes what is printed of a session of these lines, where they were all played.
@@ -47,14 +63,9 @@ fn write_session<O: Sink>(
     if !whole {
         return (Ending::NoMemory, journal);
     }
-    match print_played(alloc, lines, &journal, answers, &problems) {
-        Err(NoMemory {}) => (Ending::NoMemory, journal),
-        Ok(text) => match out.put(text.as_str().as_bytes()) {
-            Ok(()) => (Ending::Done, journal),
-            Err(PutRefused::Failed) => (Ending::WriteFault, journal),
-            Err(PutRefused::NoMemory) => (Ending::NoMemory, journal),
-        },
-    }
+    let printed = print_played(alloc, lines, &journal, answers, &problems);
+    let ending = write_printed(out, printed);
+    (ending, journal)
 }
 
 /// A run that comes to no session.

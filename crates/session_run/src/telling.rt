@@ -16,6 +16,7 @@ fn limit_name(limit: Limit) -> &'static str
     ensures { result.now ≡ spec.limit_name limit }
 {
     match limit {
+        Limit::Clients => "Clients",
         Limit::FileBytes => "FileBytes",
         Limit::ScriptBytes => "ScriptBytes",
         Limit::Calls => "Calls",
@@ -45,6 +46,7 @@ pub fn status_of(ending: &Ending) -> u8
         Ending::Usage => 2,
         Ending::Refused(why) => refusal_status(why),
         Ending::WriteFault => 5,
+        Ending::SpawnFault => 6,
         Ending::NoMemory => 7,
     }
 }
@@ -59,6 +61,12 @@ fn write_fault_line() -> &'static str
     ensures { result.now ≡ spec.line_text ending.WriteFault }
 {
     "write fault\n"
+}
+
+fn spawn_fault_line() -> &'static str
+    ensures { result.now ≡ spec.line_text ending.SpawnFault }
+{
+    "spawn fault\n"
 }
 
 fn no_memory_line() -> &'static str
@@ -144,6 +152,10 @@ pub fn tell<E: Sink>(alloc: Global, err: &mut E, ending: Ending) -> Ending
         Ending::WriteFault => {
             put_line(err, write_fault_line());
             Ending::WriteFault
+        }
+        Ending::SpawnFault => {
+            put_line(err, spawn_fault_line());
+            Ending::SpawnFault
         }
         Ending::NoMemory => {
             put_line(err, no_memory_line());

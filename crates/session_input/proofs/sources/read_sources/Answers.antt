@@ -1,41 +1,16 @@
-use Rattle.std.proofs.Common.{◌+◌, ◌≤◌, ◌<◌, Option, length, drop, ◌∙◌, ap, subst, take_all, arith}
-use Rattle.pc_terms.specs.Bytes.{Bytes}
-use Rattle.session_input.specs.Leads.{LeadsOn, EndsAt}
-use Rattle.session_input.specs.Sources.{pairs_in}
-use Rattle.session_input.proofs.ReadLemmas.{same_content}
-use Rattle.session_input.proofs.SourceLemmas.{leads-more, ends-more, ends-before, pairs_in-more, pairs_in-split, ended, led}
+use Rattle.std.proofs.Common.{inl, refl, Ok, Err, subst}
+use Rattle.ask_history.specs.Sources.{Sources}
+use Rattle.session_input.specs.Reads.{ComesTo}
+use Rattle.session_input.specs.Sources.{pairs_in, sources_reading}
+use Rattle.session_input.proofs.SourceLemmas.{led, ended}
 use Rattle.session_input.proofs.sources.read_sources.Goals as goal
+
+pub returns-in-Ok-clause-comes : goal.returns-in-Ok-clause-comes
+returns-in-Ok-clause-comes g c =
+    subst (λ (before : Sources). ComesTo (g.F.Files.content c.args.files.now) (sources_reading before (pairs_in c.args.lines.now)) (Ok c.read_sources_in.new.sources.entries)) c.new-sources.ensures.empty
+    (led (inl refl) refl c.in-Ok.ensures.comes)
 
 pub returns-in-Err-clause-comes : goal.returns-in-Err-clause-comes
 returns-in-Err-clause-comes g c =
-    let content = g.F.Files.content c.args.files.now in
-    let lines = c.args.lines.now in
-    let i = c.loop-line.line-index in
-    let line = c.line-item.result in
-    let within : i < length lines = omega arith in
-    let same = same_content (g.F.Files.content c.loop-line.files) content c.loop-line.invariant.content in
-    let own = subst (λ (k : Bytes → Option Bytes). EndsAt k c.loop-line.sources.entries c.pairs_of.result.now c.in-Err.none) same c.in-Err.ensures.comes in
-    let own_pairs = rw c.pairs_of.ensures at own in
-    ended (pairs_in-split lines i line within c.line-item.is) (ends-before (pairs_in (drop (i + 1) lines)) (ends-more c.loop-line.invariant.leads own_pairs))
-
-pub loop-line-preserved : goal.loop-line-preserved
-loop-line-preserved g c =
-    let content = g.F.Files.content c.args.files.now in
-    let lines = c.args.lines.now in
-    let i = c.loop-line.line-index in
-    let line = c.line-item.result in
-    let within : i < length lines = omega arith in
-    let same = same_content (g.F.Files.content c.loop-line.files) content c.loop-line.invariant.content in
-    let own = subst (λ (k : Bytes → Option Bytes). LeadsOn k c.loop-line.sources.entries c.read_sources_of.new.sources.entries c.pairs_of.result.now) same c.in-Ok.ensures.comes in
-    let own_pairs = rw c.pairs_of.ensures at own in
-    record {
-      leads = rw (pairs_in-more lines i line within c.line-item.is) (leads-more c.loop-line.invariant.leads own_pairs);
-      content = λ other. c.in-Ok.ensures.content other ∙ c.loop-line.invariant.content other;
-      counts = omega (arith, c.in-Ok.ensures.counts);
-    }
-
-pub returns-clause-comes : goal.returns-clause-comes
-returns-clause-comes g c =
-    let lines = c.args.lines.now in
-    let all : length lines ≤ c.loop-line.line-index = omega arith in
-    led (ap pairs_in (take_all c.loop-line.line-index lines all)) c.loop-line.invariant.leads
+    subst (λ (before : Sources). ComesTo {A = Sources} (g.F.Files.content c.args.files.now) (sources_reading before (pairs_in c.args.lines.now)) (Err c.in-Err.none)) c.new-sources.ensures.empty
+    (ended refl c.in-Err.ensures.comes)
