@@ -1,5 +1,5 @@
 -- What a `for` is rewritten to is what the grammar says, as far as it is kept.
-use Rattle.std.proofs.Common.{◌≡◌, ℕ, ◌+◌, max, nat_le, Bool, true, false, if◌then◌else◌, List, [], ◌∷◌, map, Option, None, codes, ◌⊎◌, inl, inr, refl, ap, sym, ◌∙◌, subst}
+use Rattle.std.proofs.Common.{◌≡◌, ℕ, ◌+◌, max, nat_le, Bool, true, false, ◌&&◌, if◌then◌else◌, List, [], ◌∷◌, map, Option, None, codes, ◌⊎◌, inl, inr, refl, ap, sym, ◌∙◌, subst}
 use Rattle.pc_terms.specs.declared.problems.Span.{Span}
 use Rattle.pc_terms.specs.declared.tree_kinds.TreeKind.TheVariants as kind
 use Rattle.positioned_trees.specs.declared.details.Detail.TheVariants as detail
@@ -62,12 +62,15 @@ leaf-hidden (kid ∷ kids) = refl
 
 variable-hidden : (tree : Tree) → is_variable (hidden tree) ≡ is_variable tree
 variable-hidden tree =
-    ap is_variable (hidden_out tree) ∙ ap (λ l. is_bind_of l) (out-roll-Tree _) ∙ go (is_bind (out-Tree tree).kind)
+    ap is_variable (hidden_out tree) ∙ ap is_bind_of (out-roll-Tree layer) ∙ go (is_bind (out-Tree tree).kind)
   where
-    is_bind_of : Tree-F Tree → Bool
-    is_bind_of l = if is_bind l.kind then is_leaf l.kids else false
+    layer : Tree-F Tree
+    layer = record (out-Tree tree) { opaque = false; kids = map hidden (out-Tree tree).kids; detail = detail.Plain }
 
-    go : (b : Bool) → (if b then is_leaf (map hidden (out-Tree tree).kids) else false) ≡ (if b then is_leaf (out-Tree tree).kids else false)
+    is_bind_of : Tree-F Tree → Bool
+    is_bind_of l = is_bind l.kind && is_leaf l.kids
+
+    go : (b : Bool) → (b && is_leaf (map hidden (out-Tree tree).kids)) ≡ (b && is_leaf (out-Tree tree).kids)
     go true = leaf-hidden (out-Tree tree).kids
     go false = refl
 

@@ -15,7 +15,7 @@ use Rattle.source_grammar.specs.Spans.{from_to, span_of, enclosing, labelled, un
 use Rattle.parse_parts.specs.Built.{joined, alone, node}
 use Rattle.parse_parts.proofs.Kept.{kept, kept_all, joined-kept, alone-kept, node-kept}
 use Rattle.tree_lower.specs.Keeping.{name_of, sign_name, operand_shown, places_shown}
-use Rattle.tree_lower.specs.Lowering.{unlabelled, leaf, pair, added, detailed, appended, operator_select, called, operation, operation_tall, prefixed, update_select, updated, placeholder_ident, placeholder_param, with_params, bound}
+use Rattle.tree_lower.specs.Lowering.{unlabelled, pair, added, detailed, appended, operator_select, called, operation, operation_tall, prefixed, update_select, updated, placeholder_ident, placeholder_param, with_params, bound}
 use Rattle.tree_lower.proofs.KeptTrees.{added-kept, detailed-kept, unlabelled-kept, leaf-kept, pair-kept, appended-kept, over-one}
 
 -- ---- operators
@@ -86,7 +86,9 @@ pub ident-kept : (place : Place) → placeholder_ident place.span ≡ kept (plac
 ident-kept place = ap (detailed _) (leaf-kept kind.Ident (codes "_") place.span) ∙ detailed-kept _ _
 
 param-kept : (place : Place) → placeholder_param place.span ≡ kept (placeholders.placeholder_param place)
-param-kept place = ap (λ t. added (detailed _ t)) (leaf-kept kind.Param (codes "_") place.span) ∙ ap added (detailed-kept _ _) ∙ added-kept _
+param-kept place =
+    ap (λ t. added (detailed (placeholders.lambda_param false) t)) (leaf-kept kind.Param (codes "_") place.span)
+    ∙ ap added (detailed-kept (placeholders.lambda_param false) _) ∙ added-kept _
 
 params-kept : (trees : List Tree) (places : List Place) → with_params (kept_all trees) (places_shown places) ≡ kept_all (trees ++ map placeholders.placeholder_param places)
 params-kept trees [] = ap kept_all (sym (append-nil trees))

@@ -11,7 +11,7 @@ use Rattle.positioned_trees.specs.Trees.{height, highest}
 use Rattle.positioned_trees.proofs.Heights.{height-roll, height-out, highest-append}
 use Rattle.scan_tokens.specs.Words.{Bytes}
 use Rattle.source_grammar.specs.Spans.{enclosing, labelled, with_detail, added as added_tree, unlabelled as unlabelled_tree, span_in as span_of_tree}
-use Rattle.parse_parts.specs.Built.{max_height, joined, alone, node}
+use Rattle.parse_parts.specs.Built.{max_height, joined, alone}
 use Rattle.parse_parts.specs.declared.built.Kids.{Kids}
 use Rattle.parse_parts.specs.declared.built.Tall.{Tall}
 use Rattle.parse_parts.proofs.Kept.{keep, keep_all, kept, kept_all, le-is, le-not, joined-kept, alone-kept, node-kept}

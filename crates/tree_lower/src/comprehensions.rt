@@ -68,7 +68,13 @@ fn one_case(
     ensures { IfOk result (λ tall. tall ≡ spec.one_case span pattern body) }
 {
     let label = Text::new(alloc, "case")?;
-    let case = node(TreeKind::Case, label, span, span, pair(alloc, pattern, body)?);
+    let case = node(
+        TreeKind::Case,
+        label,
+        span,
+        span,
+        pair(alloc, pattern, body)?,
+    );
     Ok(added(detailed(case, Detail::Case { has_guard: false })))
 }
 
@@ -147,7 +153,12 @@ fn filtered_once(
 ) -> Result<Option<Tall>, NoMemory>
     ensures { IfOk result (λ tall. tall ≡ spec.filtered_once receiver pattern guard) }
 {
-    added_call(alloc, receiver, "withFilter", taking(alloc, pattern, guard)?)
+    added_call(
+        alloc,
+        receiver,
+        "withFilter",
+        taking(alloc, pattern, guard)?,
+    )
 }
 
 // The later guards, whose patterns are copies.

@@ -1,5 +1,4 @@
-use Rattle.std.proofs.Common.{◌≡◌, ◌∙◌, ◌<◌, sym, ap, map, take, take_all, get_or, length, rules, arith}
-use Rattle.std.proofs.lemmas.Grind.{common_steps}
+use Rattle.std.proofs.Common.{◌≡◌, ◌∙◌, sym, ap, map, take, take_all, get_or, length, rules, arith}
 use Rattle.positioned_trees.specs.Trees.{height}
 use Rattle.positioned_trees.specs.declared.trees.Tree.TheViews.{out-Tree}
 use Rattle.positioned_trees.proofs.Heights.{height-out, height-get_or}
