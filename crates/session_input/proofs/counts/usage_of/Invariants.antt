@@ -1,8 +1,0 @@
-use Rattle.std.proofs.Common.{map, take}
-use Rattle.script_text.specs.Texts.{entry_with}
-use Rattle.session_input.specs.Sources.{pairs_in}
-use Rattle.session_input.specs.Counts.{CountsMore}
-use Rattle.session_input.proofs.counts.usage_of.Given as goal
-
-abbrev pub invariant-loop-line : goal.invariant-loop-line
-invariant-loop-line l = CountsMore (map (entry_with l.fn.sources.entries) (pairs_in (take l.line-index l.lines))) l.initial.counts l.counts
