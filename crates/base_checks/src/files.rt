@@ -1,47 +1,124 @@
 //! Files in memory, and those of the system.
 
 use pc_outside::{Files, MemoryFiles, ReadRefused, StdFiles};
+use pc_terms::NoMemory;
 use std::alloc::Global;
+use std::process::Abort;
 use std::test::Fail;
 use std::{env, fs, process};
 
-fn read_all<F: Files>(files: &mut F, alloc: Global, name: &str) -> Result<Vec<u8>, ReadRefused> {
-    files.read(alloc, name, 100)
+/// A read of the first bytes of a file.
+struct Read {
+    name: &'static str,
+    most: usize,
+    given: Result<&'static str, ReadRefused>,
+    /// How many reads have failed then, and which name last.
+    faults: u64,
+    last_failed: Option<&'static str>,
+}
+
+static READS: [Read; 2] = [
+    Read {
+        name: "A.scala",
+        most: 3,
+        given: Ok("obj"),
+        faults: 0,
+        last_failed: None,
+    },
+    Read {
+        name: "B.scala",
+        most: 100,
+        given: Ok("class B"),
+        faults: 0,
+        last_failed: None,
+    },
+];
+
+static FAILING_READS: [Read; 4] = [
+    Read {
+        name: "A.scala",
+        most: 100,
+        given: Ok("object A"),
+        faults: 0,
+        last_failed: None,
+    },
+    Read {
+        name: "A.scala",
+        most: 100,
+        given: Err(ReadRefused::Failed),
+        faults: 1,
+        last_failed: Some("A.scala"),
+    },
+    Read {
+        name: "A.scala",
+        most: 100,
+        given: Ok("object A"),
+        faults: 1,
+        last_failed: Some("A.scala"),
+    },
+    Read {
+        name: "C.scala",
+        most: 100,
+        given: Err(ReadRefused::Failed),
+        faults: 2,
+        last_failed: Some("C.scala"),
+    },
+];
+
+// Files of which the reads of these numbers fail.
+fn files_of(
+    alloc: Global,
+    failing: &[u64],
+    entries: &[(&str, &str)],
+) -> Result<MemoryFiles, NoMemory> {
+    let mut files = MemoryFiles::new(alloc, failing.to_vec(alloc)?);
+    for (name, text) in entries {
+        files.insert(name, text.as_bytes().to_vec(alloc)?)?;
+    }
+    Ok(files)
+}
+
+fn agree<F: Files>(
+    rt: &(impl Abort + AllocGlobal),
+    files: &mut F,
+    read: &Read,
+) -> Result<(), Fail> {
+    let given = files.read(rt.alloc(), read.name, read.most);
+    match read.given {
+        Ok(text) => assert_eq!(rt; given?.as_slice(), text.as_bytes()),
+        Err(why) => assert_eq!(rt; given.err(), Some(why)),
+    }
+    Ok(())
+}
+
+fn agree_all(
+    rt: &(impl Abort + AllocGlobal),
+    files: &mut MemoryFiles,
+    reads: &[Read],
+) -> Result<(), Fail> {
+    for read in reads {
+        agree(rt, files, read)?;
+        assert_eq!(rt; files.faults(), read.faults);
+        assert_eq!(rt; files.last_failed(), read.last_failed);
+    }
+    Ok(())
 }
 
 #[test]
 fn a_read_gives_the_beginning_of_a_file(rt: HostRuntime) -> Result<(), Fail> {
-    let alloc = rt.alloc();
-    let mut files = MemoryFiles::new(alloc, Vec::new(alloc));
-    files.insert("A.scala", b"object A".to_vec(alloc)?)?;
-    files.insert("B.scala", b"object B".to_vec(alloc)?)?;
-    files.insert("B.scala", b"class B".to_vec(alloc)?)?;
-    let beginning = files.read(alloc, "A.scala", 3)?;
-    assert_eq!(rt; beginning.as_slice(), b"obj".as_slice());
-    let whole = read_all(&mut files, alloc, "B.scala")?;
-    assert_eq!(rt; whole.as_slice(), b"class B".as_slice());
-    assert_eq!(rt; files.faults(), 0);
-    assert_eq!(rt; files.last_failed(), None);
-    Ok(())
+    let entries = [
+        ("A.scala", "object A"),
+        ("B.scala", "object B"),
+        ("B.scala", "class B"),
+    ];
+    let mut files = files_of(rt.alloc(), &[], &entries)?;
+    agree_all(&rt, &mut files, &READS)
 }
 
 #[test]
 fn planned_calls_and_unknown_names_fail(rt: HostRuntime) -> Result<(), Fail> {
-    let alloc = rt.alloc();
-    let mut files = MemoryFiles::new(alloc, vec![in alloc; 2]?);
-    files.insert("A.scala", b"object A".to_vec(alloc)?)?;
-    let first = read_all(&mut files, alloc, "A.scala")?;
-    assert_eq!(rt; first.as_slice(), b"object A".as_slice());
-    let second = read_all(&mut files, alloc, "A.scala");
-    assert_eq!(rt; second.err(), Some(ReadRefused::Failed));
-    assert_eq!(rt; files.last_failed(), Some("A.scala"));
-    let third = read_all(&mut files, alloc, "A.scala")?;
-    assert_eq!(rt; third.as_slice(), b"object A".as_slice());
-    let fourth = read_all(&mut files, alloc, "C.scala");
-    assert_eq!(rt; fourth.err(), Some(ReadRefused::Failed));
-    assert_eq!(rt; files.last_failed(), Some("C.scala"));
-    assert_eq!(rt; files.faults(), 2);
-    Ok(())
+    let mut files = files_of(rt.alloc(), &[2], &[("A.scala", "object A")])?;
+    agree_all(&rt, &mut files, &FAILING_READS)
 }
 
 // The files of the system are read in pieces of this many bytes.

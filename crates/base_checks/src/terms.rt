@@ -1,250 +1,278 @@
+//! How types and symbols are printed. A type is a list of words: each one that takes types stands before them, so the
+//! list is read from its end, with a stack.
+
 use pc_terms::{Formal, NoMemory, Row, SymKind, SymPath, SymStep, Text, Ty, show, show_symbol};
 use sqlite_items::Boxed;
 use std::alloc::Global;
+use std::process::Abort;
 use std::test::Fail;
 
-fn step(alloc: Global, kind: SymKind, name: &str, ordinal: u32) -> Result<SymStep, NoMemory> {
+/// A step of a path, with its number.
+type Step = (SymKind, &'static str, u32);
+
+type Steps = &'static [Step];
+
+fn step(alloc: Global, step: &Step) -> Result<SymStep, NoMemory> {
     Ok(SymStep {
-        kind,
-        name: Text::new(alloc, name)?,
-        ordinal,
+        kind: step.0,
+        name: Text::new(alloc, step.1)?,
+        ordinal: step.2,
     })
 }
 
-// A path with its kinds, names and numbers.
-fn numbered(alloc: Global, steps: &[(SymKind, &str, u32)]) -> Result<SymPath, NoMemory> {
+fn path(alloc: Global, steps: &[Step]) -> Result<SymPath, NoMemory> {
     let mut row = Row::new(alloc);
-    for (kind, name, ordinal) in steps {
-        row.push(step(alloc, *kind, name, *ordinal)?)?;
+    for each in steps {
+        row.push(step(alloc, each)?)?;
     }
     Ok(SymPath { steps: row })
 }
 
-fn path(alloc: Global, steps: &[(SymKind, &str)]) -> Result<SymPath, NoMemory> {
-    let mut row = Row::new(alloc);
-    for (kind, name) in steps {
-        row.push(step(alloc, *kind, name, 0)?)?;
+/// A word of a type.
+#[derive(Clone, Copy)]
+enum Word {
+    /// A class of this path, of so many types.
+    Class(Steps, usize),
+    Param(Steps),
+    Module(Steps),
+    Package(Steps),
+    Error,
+    /// A method: of a type for each name, which is repeated or not, and then its result.
+    Method(&'static [(&'static str, bool)]),
+    /// Something with these type parameters.
+    Poly(&'static [Steps]),
+}
+
+fn next(stack: &mut Vec<Ty>) -> Ty {
+    stack.pop().unwrap_or(Ty::Error)
+}
+
+fn class(alloc: Global, stack: &mut Vec<Ty>, steps: Steps, count: usize) -> Result<Ty, NoMemory> {
+    let class = path(alloc, steps)?;
+    let mut args = Row::new(alloc);
+    for _ in 0..count {
+        args.push(next(stack))?;
     }
-    Ok(SymPath { steps: row })
+    Ok(Ty::Class(class, args))
 }
 
-fn class(alloc: Global, steps: &[(SymKind, &str)], args: Vec<Ty>) -> Result<Ty, NoMemory> {
-    Ok(Ty::Class(path(alloc, steps)?, Row::from_vec(args)))
-}
-
-fn applied(alloc: Global, name: &str, args: Vec<Ty>) -> Result<Ty, NoMemory> {
-    let steps = [(SymKind::Package, "scala"), (SymKind::Class, name)];
-    class(alloc, &steps, args)
-}
-
-fn simple(alloc: Global, name: &str) -> Result<Ty, NoMemory> {
-    applied(alloc, name, Vec::new(alloc))
-}
-
-fn with_one(alloc: Global, name: &str, only: Ty) -> Result<Ty, NoMemory> {
-    let mut args = Vec::new(alloc);
-    args.push(only)?;
-    applied(alloc, name, args)
-}
-
-fn with_two(alloc: Global, name: &str, first: Ty, second: Ty) -> Result<Ty, NoMemory> {
-    let mut args = Vec::new(alloc);
-    args.push(first)?;
-    args.push(second)?;
-    applied(alloc, name, args)
-}
-
-fn with_three(alloc: Global, name: &str, first: Ty, second: Ty, third: Ty) -> Result<Ty, NoMemory> {
-    let mut args = Vec::new(alloc);
-    args.push(first)?;
-    args.push(second)?;
-    args.push(third)?;
-    applied(alloc, name, args)
-}
-
-fn int(alloc: Global) -> Result<Ty, NoMemory> {
-    simple(alloc, "Int")
-}
-
-fn string(alloc: Global) -> Result<Ty, NoMemory> {
-    simple(alloc, "String")
-}
-
-fn strings(alloc: Global) -> Result<Ty, NoMemory> {
-    with_one(alloc, "List", string(alloc)?)
-}
-
-fn pair(alloc: Global) -> Result<Ty, NoMemory> {
-    with_two(alloc, "Tuple2", int(alloc)?, string(alloc)?)
-}
-
-// A function of one parameter.
-fn function(alloc: Global, from: Ty, to: Ty) -> Result<Ty, NoMemory> {
-    with_two(alloc, "Function1", from, to)
-}
-
-fn int_to_string(alloc: Global) -> Result<Ty, NoMemory> {
-    function(alloc, int(alloc)?, string(alloc)?)
-}
-
-// A type parameter of the method `pick` of the object `M`.
-fn type_parameter(alloc: Global, name: &str) -> Result<SymPath, NoMemory> {
-    let owner = (SymKind::Object, "M");
-    let method = (SymKind::Def, "pick");
-    path(alloc, &[owner, method, (SymKind::TypeParam, name)])
-}
-
-type Rows = Vec<(Ty, &'static str)>;
-
-fn classes(alloc: Global, rows: &mut Rows) -> Result<(), NoMemory> {
-    let shape = [(SymKind::Package, "geo"), (SymKind::Class, "Shape")];
-    rows.push((class(alloc, &shape, Vec::new(alloc))?, "geo.Shape"))?;
-    rows.push((int(alloc)?, "Int"))?;
-    let mut args = Vec::new(alloc);
-    args.push(int(alloc)?)?;
-    args.push(strings(alloc)?)?;
-    let both = [(SymKind::Package, "geo"), (SymKind::Class, "Both")];
-    rows.push((class(alloc, &both, args)?, "geo.Both[Int, List[String]]"))?;
-    rows.push((strings(alloc)?, "List[String]"))?;
-    rows.push((
-        with_one(alloc, "List", pair(alloc)?)?,
-        "List[(Int, String)]",
-    ))?;
-    Ok(())
-}
-
-// A `#` stands after a class or trait, and only a `scala.` in front is left out.
-fn paths(alloc: Global, rows: &mut Rows) -> Result<(), NoMemory> {
-    let geo = (SymKind::Package, "geo");
-    let inner = [geo, (SymKind::Trait, "Shape"), (SymKind::Class, "Corner")];
-    rows.push((class(alloc, &inner, Vec::new(alloc))?, "geo.Shape#Corner"))?;
-    let deep = [geo, (SymKind::Package, "scala"), (SymKind::Class, "Sq")];
-    rows.push((class(alloc, &deep, Vec::new(alloc))?, "geo.scala.Sq"))?;
-    Ok(())
-}
-
-fn functions(alloc: Global, rows: &mut Rows) -> Result<(), NoMemory> {
-    rows.push((with_one(alloc, "Function0", int(alloc)?)?, "() => Int"))?;
-    rows.push((int_to_string(alloc)?, "Int => String"))?;
-    let two = with_three(
-        alloc,
-        "Function2",
-        int_to_string(alloc)?,
-        pair(alloc)?,
-        int(alloc)?,
-    )?;
-    rows.push((two, "(Int => String, (Int, String)) => Int"))?;
-    Ok(())
-}
-
-// A function or a tuple that is the one parameter stands in parentheses, and nothing else does.
-fn single_parameters(alloc: Global, rows: &mut Rows) -> Result<(), NoMemory> {
-    let of_function = function(alloc, int_to_string(alloc)?, int(alloc)?)?;
-    rows.push((of_function, "(Int => String) => Int"))?;
-    let of_pair = function(alloc, pair(alloc)?, int(alloc)?)?;
-    rows.push((of_pair, "((Int, String)) => Int"))?;
-    let of_list = function(alloc, strings(alloc)?, int(alloc)?)?;
-    rows.push((of_list, "List[String] => Int"))?;
-    let to_function = function(alloc, int(alloc)?, int_to_string(alloc)?)?;
-    rows.push((to_function, "Int => Int => String"))?;
-    Ok(())
-}
-
-fn tuples(alloc: Global, rows: &mut Rows) -> Result<(), NoMemory> {
-    rows.push((pair(alloc)?, "(Int, String)"))?;
-    let three = with_three(
-        alloc,
-        "Tuple3",
-        int(alloc)?,
-        int_to_string(alloc)?,
-        string(alloc)?,
-    )?;
-    rows.push((three, "(Int, Int => String, String)"))?;
-    Ok(())
-}
-
-fn formal(alloc: Global, name: &str, ty: Ty, repeated: bool) -> Result<Formal, NoMemory> {
+fn formal(
+    alloc: Global,
+    stack: &mut Vec<Ty>,
+    name: &str,
+    repeated: bool,
+) -> Result<Formal, NoMemory> {
+    let name = Text::new(alloc, name)?;
     Ok(Formal {
-        name: Text::new(alloc, name)?,
-        ty,
+        name,
+        ty: next(stack),
         repeated,
     })
 }
 
-fn methods(alloc: Global, rows: &mut Rows) -> Result<(), NoMemory> {
-    let nullary = Ty::Method(Row::new(alloc), Boxed::new(alloc, int(alloc)?)?);
-    rows.push((nullary, "()Int"))?;
+fn method(alloc: Global, stack: &mut Vec<Ty>, names: &[(&str, bool)]) -> Result<Ty, NoMemory> {
     let mut formals = Row::new(alloc);
-    formals.push(formal(alloc, "x", int(alloc)?, false)?)?;
-    formals.push(formal(alloc, "y", string(alloc)?, true)?)?;
-    let two = Ty::Method(formals, Boxed::new(alloc, int(alloc)?)?);
-    rows.push((two, "(x: Int, y: String*)Int"))?;
-    Ok(())
+    for (name, repeated) in names {
+        formals.push(formal(alloc, stack, name, *repeated)?)?;
+    }
+    Ok(Ty::Method(formals, Boxed::new(alloc, next(stack))?))
 }
 
-fn polymorphic(alloc: Global, rows: &mut Rows) -> Result<(), NoMemory> {
-    rows.push((Ty::Param(type_parameter(alloc, "A")?), "A"))?;
-    let mut formals = Row::new(alloc);
-    let taken = Ty::Param(type_parameter(alloc, "A")?);
-    formals.push(formal(alloc, "x", taken, false)?)?;
-    let gives = Ty::Param(type_parameter(alloc, "B")?);
-    let method = Ty::Method(formals, Boxed::new(alloc, gives)?);
+fn poly(alloc: Global, stack: &mut Vec<Ty>, names: &[Steps]) -> Result<Ty, NoMemory> {
     let mut params = Row::new(alloc);
-    params.push(type_parameter(alloc, "A")?)?;
-    params.push(type_parameter(alloc, "B")?)?;
-    let poly = Ty::Poly(params, Boxed::new(alloc, method)?);
-    rows.push((poly, "[A, B](x: A)B"))?;
-    Ok(())
+    for name in names {
+        params.push(path(alloc, name)?)?;
+    }
+    Ok(Ty::Poly(params, Boxed::new(alloc, next(stack))?))
 }
 
-fn singletons(alloc: Global, rows: &mut Rows) -> Result<(), NoMemory> {
-    let geo = (SymKind::Package, "geo");
-    let square = path(alloc, &[geo, (SymKind::Object, "Sq")])?;
-    rows.push((Ty::Module(square), "geo.Sq.type"))?;
-    let scala = (SymKind::Package, "scala");
-    let predef = path(alloc, &[scala, (SymKind::Object, "Predef")])?;
-    rows.push((Ty::Module(predef), "Predef.type"))?;
-    rows.push((Ty::Package(path(alloc, &[geo])?), "package geo"))?;
-    rows.push((Ty::Error, "<error>"))?;
-    Ok(())
+fn read(alloc: Global, stack: &mut Vec<Ty>, word: Word) -> Result<Ty, NoMemory> {
+    match word {
+        Word::Class(steps, count) => class(alloc, stack, steps, count),
+        Word::Param(steps) => Ok(Ty::Param(path(alloc, steps)?)),
+        Word::Module(steps) => Ok(Ty::Module(path(alloc, steps)?)),
+        Word::Package(steps) => Ok(Ty::Package(path(alloc, steps)?)),
+        Word::Error => Ok(Ty::Error),
+        Word::Method(names) => method(alloc, stack, names),
+        Word::Poly(names) => poly(alloc, stack, names),
+    }
 }
 
-#[test]
-fn types_print_as_users_read_them(rt: HostRuntime) -> Result<(), Fail> {
-    let alloc = rt.alloc();
-    let mut rows = Vec::new(alloc);
-    classes(alloc, &mut rows)?;
-    paths(alloc, &mut rows)?;
-    functions(alloc, &mut rows)?;
-    single_parameters(alloc, &mut rows)?;
-    tuples(alloc, &mut rows)?;
-    methods(alloc, &mut rows)?;
-    polymorphic(alloc, &mut rows)?;
-    singletons(alloc, &mut rows)?;
-    for (ty, printed) in rows {
-        let text = show(alloc, &ty)?;
-        assert_eq!(rt; text.as_str(), printed);
+fn type_of(alloc: Global, words: &[Word]) -> Result<Ty, NoMemory> {
+    let mut stack = Vec::new(alloc);
+    for word in words.iter().rev() {
+        let ty = read(alloc, &mut stack, *word)?;
+        stack.push(ty)?;
+    }
+    Ok(next(&mut stack))
+}
+
+/// A type, and how it is printed.
+type Printed = (&'static [Word], &'static str);
+
+fn agree(rt: &(impl Abort + AllocGlobal), rows: &[Printed]) -> Result<(), Fail> {
+    for (words, printed) in rows {
+        let ty = type_of(rt.alloc(), words)?;
+        let text = show(rt.alloc(), &ty)?;
+        assert_eq!(rt; text.as_str(), *printed);
     }
     Ok(())
 }
 
-type Symbol = (&'static [(SymKind, &'static str, u32)], &'static str);
+const SCALA: Step = (SymKind::Package, "scala", 0);
 
-const A: (SymKind, &str, u32) = (SymKind::Object, "A", 0);
+const GEO: Step = (SymKind::Package, "geo", 0);
 
-const GEO: (SymKind, &str, u32) = (SymKind::Package, "geo", 0);
+const INT: Word = Word::Class(&[SCALA, (SymKind::Class, "Int", 0)], 0);
 
-const SHAPE: (SymKind, &str, u32) = (SymKind::Trait, "Shape", 0);
+const STRING: Word = Word::Class(&[SCALA, (SymKind::Class, "String", 0)], 0);
 
-const SCALA: (SymKind, &str, u32) = (SymKind::Package, "scala", 0);
+const LIST_OF: Word = Word::Class(&[SCALA, (SymKind::Class, "List", 0)], 1);
 
-const LIST: (SymKind, &str, u32) = (SymKind::Class, "List", 0);
+const PAIR: Word = Word::Class(&[SCALA, (SymKind::Class, "Tuple2", 0)], 2);
 
-const F: (SymKind, &str, u32) = (SymKind::Def, "f", 0);
+const TRIPLE: Word = Word::Class(&[SCALA, (SymKind::Class, "Tuple3", 0)], 3);
 
-const THIRD_F: (SymKind, &str, u32) = (SymKind::Def, "f", 2);
+const FUNCTION_0: Word = Word::Class(&[SCALA, (SymKind::Class, "Function0", 0)], 1);
 
-const SYMBOLS: [Symbol; 19] = [
+// A function of one parameter.
+const FUNCTION: Word = Word::Class(&[SCALA, (SymKind::Class, "Function1", 0)], 2);
+
+const FUNCTION_2: Word = Word::Class(&[SCALA, (SymKind::Class, "Function2", 0)], 3);
+
+static CLASSES: [Printed; 5] = [
+    (
+        &[Word::Class(&[GEO, (SymKind::Class, "Shape", 0)], 0)],
+        "geo.Shape",
+    ),
+    (&[INT], "Int"),
+    (
+        &[
+            Word::Class(&[GEO, (SymKind::Class, "Both", 0)], 2),
+            INT,
+            LIST_OF,
+            STRING,
+        ],
+        "geo.Both[Int, List[String]]",
+    ),
+    (&[LIST_OF, STRING], "List[String]"),
+    (&[LIST_OF, PAIR, INT, STRING], "List[(Int, String)]"),
+];
+
+// A `#` stands after a class or trait, and only a `scala.` in front is left out.
+static PATHS: [Printed; 2] = [
+    (
+        &[Word::Class(&[GEO, SHAPE, (SymKind::Class, "Corner", 0)], 0)],
+        "geo.Shape#Corner",
+    ),
+    (
+        &[Word::Class(&[GEO, SCALA, (SymKind::Class, "Sq", 0)], 0)],
+        "geo.scala.Sq",
+    ),
+];
+
+static FUNCTIONS: [Printed; 3] = [
+    (&[FUNCTION_0, INT], "() => Int"),
+    (&[FUNCTION, INT, STRING], "Int => String"),
+    (
+        &[FUNCTION_2, FUNCTION, INT, STRING, PAIR, INT, STRING, INT],
+        "(Int => String, (Int, String)) => Int",
+    ),
+];
+
+// A function or a tuple that is the one parameter stands in parentheses, and nothing else does.
+static SINGLE_PARAMETERS: [Printed; 4] = [
+    (
+        &[FUNCTION, FUNCTION, INT, STRING, INT],
+        "(Int => String) => Int",
+    ),
+    (
+        &[FUNCTION, PAIR, INT, STRING, INT],
+        "((Int, String)) => Int",
+    ),
+    (&[FUNCTION, LIST_OF, STRING, INT], "List[String] => Int"),
+    (
+        &[FUNCTION, INT, FUNCTION, INT, STRING],
+        "Int => Int => String",
+    ),
+];
+
+static TUPLES: [Printed; 2] = [
+    (&[PAIR, INT, STRING], "(Int, String)"),
+    (
+        &[TRIPLE, INT, FUNCTION, INT, STRING, STRING],
+        "(Int, Int => String, String)",
+    ),
+];
+
+static METHODS: [Printed; 2] = [
+    (&[Word::Method(&[]), INT], "()Int"),
+    (
+        &[Word::Method(&[("x", false), ("y", true)]), INT, STRING, INT],
+        "(x: Int, y: String*)Int",
+    ),
+];
+
+// The type parameters of the method `pick` of the object `M`.
+const M: Step = (SymKind::Object, "M", 0);
+
+const PICK: Step = (SymKind::Def, "pick", 0);
+
+const FIRST: Steps = &[M, PICK, (SymKind::TypeParam, "A", 0)];
+
+const SECOND: Steps = &[M, PICK, (SymKind::TypeParam, "B", 0)];
+
+static POLYMORPHIC: [Printed; 2] = [
+    (&[Word::Param(FIRST)], "A"),
+    (
+        &[
+            Word::Poly(&[FIRST, SECOND]),
+            Word::Method(&[("x", false)]),
+            Word::Param(FIRST),
+            Word::Param(SECOND),
+        ],
+        "[A, B](x: A)B",
+    ),
+];
+
+static SINGLETONS: [Printed; 4] = [
+    (
+        &[Word::Module(&[GEO, (SymKind::Object, "Sq", 0)])],
+        "geo.Sq.type",
+    ),
+    (
+        &[Word::Module(&[SCALA, (SymKind::Object, "Predef", 0)])],
+        "Predef.type",
+    ),
+    (&[Word::Package(&[GEO])], "package geo"),
+    (&[Word::Error], "<error>"),
+];
+
+#[test]
+fn types_print_as_users_read_them(rt: HostRuntime) -> Result<(), Fail> {
+    agree(&rt, &CLASSES)?;
+    agree(&rt, &PATHS)?;
+    agree(&rt, &FUNCTIONS)?;
+    agree(&rt, &SINGLE_PARAMETERS)?;
+    agree(&rt, &TUPLES)?;
+    agree(&rt, &METHODS)?;
+    agree(&rt, &POLYMORPHIC)?;
+    agree(&rt, &SINGLETONS)
+}
+
+type Symbol = (Steps, &'static str);
+
+const A: Step = (SymKind::Object, "A", 0);
+
+const SHAPE: Step = (SymKind::Trait, "Shape", 0);
+
+const LIST: Step = (SymKind::Class, "List", 0);
+
+const F: Step = (SymKind::Def, "f", 0);
+
+const THIRD_F: Step = (SymKind::Def, "f", 2);
+
+static SYMBOLS: [Symbol; 19] = [
     (&[A], "object A"),
     (&[A, (SymKind::Val, "x", 0)], "val A.x"),
     (&[A, (SymKind::Var, "v", 0)], "var A.v"),
@@ -279,7 +307,7 @@ const SYMBOLS: [Symbol; 19] = [
 fn symbols_print_their_kind_and_path(rt: HostRuntime) -> Result<(), Fail> {
     let alloc = rt.alloc();
     for (steps, printed) in &SYMBOLS {
-        let symbol = numbered(alloc, steps)?;
+        let symbol = path(alloc, steps)?;
         let text = show_symbol(alloc, &symbol)?;
         assert_eq!(rt; text.as_str(), *printed);
     }
