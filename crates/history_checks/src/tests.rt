@@ -1,3 +1,5 @@
 mod answers;
-mod builders;
+mod found;
+mod making;
 mod outcomes;
+mod sessions;

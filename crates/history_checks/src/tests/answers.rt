@@ -1,185 +1,50 @@
 //! Answers and problems, as they are printed.
 
-use super::builders::{A, B, Session, accept, calls, done, reload, type_at};
-use ask_history::{Answer, Call, Event, MemberInfo, OutlineInfo, ScopeInfo, TreeInfo};
-use pc_terms::{Code, NoMemory, Problem, Row, Span, SymKind, SymPath, SymStep, Text, TreeKind, Ty};
-use std::alloc::Global;
+use super::found::{Definition, Finding, Found, Member, Name, Step, Tree, Type};
+use super::sessions::{A, Asked, B, Entry, FileName, Happened, Session, Wanted, agree};
+use pc_terms::{Code, SymKind, TreeKind};
 use std::process::Abort;
 use std::test::Fail;
 
-// One client, whose calls these are; each is accepted and settled at once.
-fn answered(alloc: Global, asked: Vec<Call>, answers: Vec<Answer>) -> Result<Session, NoMemory> {
-    let scripts = vec![in alloc; calls(alloc, asked.len())?]?;
-    let mut events = Vec::new(alloc);
-    for call in asked {
-        let ticket = events.len() as u64 / 2;
-        events.push(accept(ticket, 0, ticket + 1, call))?;
-        events.push(done(ticket))?;
-    }
-    Ok(Session {
-        scripts,
-        events,
-        answers: vec![in alloc; Row::from_vec(answers)]?,
-        problems: Vec::new(alloc),
-    })
-}
-
-fn step(alloc: Global, kind: SymKind, name: &str) -> Result<SymStep, NoMemory> {
-    Ok(SymStep {
-        kind,
-        name: Text::new(alloc, name)?,
-        ordinal: 0,
-    })
-}
-
-fn path(alloc: Global, steps: &[(SymKind, &str)]) -> Result<SymPath, NoMemory> {
-    let mut row = Row::new(alloc);
-    for (kind, name) in steps {
-        row.push(step(alloc, *kind, name)?)?;
-    }
-    Ok(SymPath { steps: row })
-}
-
-// A value of the object of this name.
-fn val_of(alloc: Global, object: &str, name: &str) -> Result<SymPath, NoMemory> {
-    path(alloc, &[(SymKind::Object, object), (SymKind::Val, name)])
-}
-
-fn int(alloc: Global) -> Result<Ty, NoMemory> {
-    let class = path(
-        alloc,
-        &[(SymKind::Package, "scala"), (SymKind::Class, "Int")],
-    )?;
-    Ok(Ty::Class(class, Row::new(alloc)))
-}
-
-fn span(start: u32, end: u32) -> Span {
-    Span { start, end }
-}
-
-fn problem(alloc: Global, code: Code, span: Span, text: &str) -> Result<Problem, NoMemory> {
-    Ok(Problem {
-        code,
-        span,
-        text: Text::new(alloc, text)?,
-    })
-}
-
-fn checked(alloc: Global, file: &str) -> Result<Event, NoMemory> {
-    Ok(Event::Checked {
-        file: Text::new(alloc, file)?,
-    })
-}
-
-// A literal, whose type is known and which has no symbol.
-fn literal(alloc: Global) -> Result<Answer, NoMemory> {
-    Ok(Answer::Tree(TreeInfo {
-        kind: TreeKind::Literal,
-        span: span(19, 20),
-        ty: Some(int(alloc)?),
-        sym: None,
-    }))
-}
-
-fn member(
-    alloc: Global,
-    name: &str,
-    kind: SymKind,
-    ty: Ty,
-    owner: SymPath,
-) -> Result<MemberInfo, NoMemory> {
-    Ok(MemberInfo {
-        name: Text::new(alloc, name)?,
-        kind,
-        ty,
-        owner,
-    })
-}
-
-fn members(alloc: Global) -> Result<Answer, NoMemory> {
-    let owner = path(alloc, &[(SymKind::Object, "A")])?;
-    let x = member(alloc, "x", SymKind::Val, int(alloc)?, owner)?;
-    let owner = path(alloc, &[(SymKind::Object, "A")])?;
-    let y = member(alloc, "y", SymKind::Val, Ty::Error, owner)?;
-    let owner = path(
-        alloc,
-        &[(SymKind::Package, "geo"), (SymKind::Trait, "Shape")],
-    )?;
-    let area = member(alloc, "area", SymKind::Def, int(alloc)?, owner)?;
-    Ok(Answer::Members(Row::from_vec(vec![in alloc; x, y, area]?)))
-}
-
-fn seen(alloc: Global, name: &str, sym: SymPath) -> Result<ScopeInfo, NoMemory> {
-    Ok(ScopeInfo {
-        name: Text::new(alloc, name)?,
-        sym,
-    })
-}
-
-fn scope(alloc: Global) -> Result<Answer, NoMemory> {
-    let a = seen(alloc, "a", val_of(alloc, "B", "a")?)?;
-    let b = seen(alloc, "b", val_of(alloc, "B", "b")?)?;
-    let object = seen(alloc, "B", path(alloc, &[(SymKind::Object, "B")])?)?;
-    Ok(Answer::Scope(Row::from_vec(vec![in alloc; a, b, object]?)))
-}
-
-fn link(alloc: Global) -> Result<Answer, NoMemory> {
-    let sym = path(alloc, &[(SymKind::Object, "L1"), (SymKind::Class, "X")])?;
-    Ok(Answer::Link(Text::new(alloc, "l.scala")?, span(18, 19), sym))
-}
-
-fn outlined(
-    alloc: Global,
-    depth: u32,
-    kind: TreeKind,
-    name: &str,
-    span: Span,
-) -> Result<OutlineInfo, NoMemory> {
-    Ok(OutlineInfo {
-        depth,
-        kind,
-        name: Text::new(alloc, name)?,
-        span,
-    })
-}
-
-fn outline(alloc: Global) -> Result<Answer, NoMemory> {
-    let object = outlined(alloc, 0, TreeKind::ObjectDef, "A", span(0, 22))?;
-    let val = outlined(alloc, 1, TreeKind::ValDef, "x", span(11, 20))?;
-    Ok(Answer::Outline(Row::from_vec(vec![in alloc; object, val]?)))
-}
-
-fn typed(alloc: Global) -> Result<Answer, NoMemory> {
-    let x = TreeInfo {
-        kind: TreeKind::ValDef,
-        span: span(11, 20),
-        ty: Some(int(alloc)?),
-        sym: Some(val_of(alloc, "A", "x")?),
-    };
-    let y = TreeInfo {
-        kind: TreeKind::ValDef,
-        span: span(22, 32),
-        ty: Some(Ty::Error),
-        sym: Some(val_of(alloc, "A", "y")?),
-    };
-    let missing = problem(alloc, Code::P2, span(32, 32), "name expected")?;
-    let definitions = Row::from_vec(vec![in alloc; x, y]?);
-    Ok(Answer::Loaded(definitions, Row::from_vec(vec![in alloc; missing]?)))
-}
+static CALLS_AND_A_TREE: Session = Session {
+    scripts: &[&[Wanted::Call, Wanted::Call, Wanted::Call]],
+    events: &[
+        Happened::Accept(
+            0,
+            0,
+            1,
+            Asked::Reload(&[Entry("A.scala", A), Entry("B.scala", B)]),
+        ),
+        Happened::Done(0),
+        Happened::Accept(1, 0, 2, Asked::TypeAt("A.scala", 19)),
+        Happened::Done(1),
+        Happened::Accept(
+            2,
+            0,
+            3,
+            Asked::Remove(&[FileName("A.scala"), FileName("B.scala")]),
+        ),
+        Happened::Done(2),
+    ],
+    answers: &[&[
+        Found::Done,
+        // a literal, whose type is known and which has no symbol
+        Found::Tree(Tree {
+            kind: TreeKind::Literal,
+            span: (19, 20),
+            ty: Some(Type::Int),
+            sym: None,
+        }),
+        Found::Done,
+    ]],
+    problems: &[],
+};
 
 #[test]
 fn calls_and_a_tree(rt: HostRuntime) -> Result<(), Fail> {
-    let alloc = rt.alloc();
-    let names = vec![in alloc; Text::new(alloc, "A.scala")?, Text::new(alloc, "B.scala")?]?;
-    let asked = vec![in alloc;
-        reload(alloc, &[("A.scala", A), ("B.scala", B)])?,
-        type_at(alloc, 19)?,
-        Call::Remove(Row::from_vec(names)),
-    ]?;
-    let answers = vec![in alloc; Answer::Done, literal(alloc)?, Answer::Done]?;
-    let text = answered(alloc, asked, answers)?.printed(alloc)?;
-    assert_eq!(rt;
-        text.as_str(),
+    agree(
+        &rt,
+        &CALLS_AND_A_TREE,
         "journal\t6\n\
         0\taccept\t0\t0\t1\treload A.scala 22 B.scala 33\n\
         1\tsettle\t0\tdone\n\
@@ -191,26 +56,44 @@ fn calls_and_a_tree(rt: HostRuntime) -> Result<(), Fail> {
         1\tdone\n\
         2\ttree\tLiteral\t19-20\tInt\t-\n\
         3\tdone\n\
-        end\n"
-    );
-    Ok(())
+        end\n",
+    )
 }
 
-// What is printed of one call and its answer.
-fn printed(alloc: Global, call: Call, answer: Answer) -> Result<Text, NoMemory> {
-    let asked = vec![in alloc; call]?;
-    let answers = vec![in alloc; answer]?;
-    answered(alloc, asked, answers)?.printed(alloc)
-}
+static MEMBERS: Session = Session {
+    scripts: &[&[Wanted::Call]],
+    events: &[
+        Happened::Accept(0, 0, 1, Asked::MembersAt("A.scala", 32)),
+        Happened::Done(0),
+    ],
+    answers: &[&[Found::Members(&[
+        Member {
+            name: "x",
+            kind: SymKind::Val,
+            ty: Type::Int,
+            owner: &[Step(SymKind::Object, "A")],
+        },
+        Member {
+            name: "y",
+            kind: SymKind::Val,
+            ty: Type::Error,
+            owner: &[Step(SymKind::Object, "A")],
+        },
+        Member {
+            name: "area",
+            kind: SymKind::Def,
+            ty: Type::Int,
+            owner: &[Step(SymKind::Package, "geo"), Step(SymKind::Trait, "Shape")],
+        },
+    ])]],
+    problems: &[],
+};
 
 #[test]
 fn members_are_listed(rt: HostRuntime) -> Result<(), Fail> {
-    let alloc = rt.alloc();
-    let answer = members(alloc)?;
-    let call = Call::MembersAt(Text::new(alloc, "A.scala")?, 32);
-    let text = printed(alloc, call, answer)?;
-    assert_eq!(rt;
-        text.as_str(),
+    agree(
+        &rt,
+        &MEMBERS,
         "journal\t2\n\
         0\taccept\t0\t0\t1\tmembers A.scala 32\n\
         1\tsettle\t0\tdone\n\
@@ -219,19 +102,29 @@ fn members_are_listed(rt: HostRuntime) -> Result<(), Fail> {
         \tx\tval\tInt\tA\n\
         \ty\tval\t<error>\tA\n\
         \tarea\tdef\tInt\tgeo.Shape\n\
-        end\n"
-    );
-    Ok(())
+        end\n",
+    )
 }
+
+static NAMES: Session = Session {
+    scripts: &[&[Wanted::Call]],
+    events: &[
+        Happened::Accept(0, 0, 1, Asked::ScopeAt("B.scala", 19)),
+        Happened::Done(0),
+    ],
+    answers: &[&[Found::Scope(&[
+        Name("a", &[Step(SymKind::Object, "B"), Step(SymKind::Val, "a")]),
+        Name("b", &[Step(SymKind::Object, "B"), Step(SymKind::Val, "b")]),
+        Name("B", &[Step(SymKind::Object, "B")]),
+    ])]],
+    problems: &[],
+};
 
 #[test]
 fn names_in_scope_are_listed(rt: HostRuntime) -> Result<(), Fail> {
-    let alloc = rt.alloc();
-    let answer = scope(alloc)?;
-    let call = Call::ScopeAt(Text::new(alloc, "B.scala")?, 19);
-    let text = printed(alloc, call, answer)?;
-    assert_eq!(rt;
-        text.as_str(),
+    agree(
+        &rt,
+        &NAMES,
         "journal\t2\n\
         0\taccept\t0\t0\t1\tscope B.scala 19\n\
         1\tsettle\t0\tdone\n\
@@ -240,37 +133,56 @@ fn names_in_scope_are_listed(rt: HostRuntime) -> Result<(), Fail> {
         \ta\tval B.a\n\
         \tb\tval B.b\n\
         \tB\tobject B\n\
-        end\n"
-    );
-    Ok(())
+        end\n",
+    )
 }
+
+static LINK: Session = Session {
+    scripts: &[&[Wanted::Call]],
+    events: &[
+        Happened::Accept(0, 0, 1, Asked::LinkAt("u.scala", 49)),
+        Happened::Done(0),
+    ],
+    answers: &[&[Found::Link(
+        "l.scala",
+        (18, 19),
+        &[Step(SymKind::Object, "L1"), Step(SymKind::Class, "X")],
+    )]],
+    problems: &[],
+};
 
 #[test]
 fn a_definition_is_linked(rt: HostRuntime) -> Result<(), Fail> {
-    let alloc = rt.alloc();
-    let answer = link(alloc)?;
-    let call = Call::LinkAt(Text::new(alloc, "u.scala")?, 49);
-    let text = printed(alloc, call, answer)?;
-    assert_eq!(rt;
-        text.as_str(),
+    agree(
+        &rt,
+        &LINK,
         "journal\t2\n\
         0\taccept\t0\t0\t1\tlink u.scala 49\n\
         1\tsettle\t0\tdone\n\
         client\t0\n\
         1\tlink\tl.scala\t18-19\tclass L1.X\n\
-        end\n"
-    );
-    Ok(())
+        end\n",
+    )
 }
+
+static DEFINITIONS: Session = Session {
+    scripts: &[&[Wanted::Call]],
+    events: &[
+        Happened::Accept(0, 0, 1, Asked::Structure("A.scala")),
+        Happened::Done(0),
+    ],
+    answers: &[&[Found::Outline(&[
+        Definition(0, TreeKind::ObjectDef, "A", (0, 22)),
+        Definition(1, TreeKind::ValDef, "x", (11, 20)),
+    ])]],
+    problems: &[],
+};
 
 #[test]
 fn definitions_are_listed(rt: HostRuntime) -> Result<(), Fail> {
-    let alloc = rt.alloc();
-    let answer = outline(alloc)?;
-    let call = Call::Structure(Text::new(alloc, "A.scala")?);
-    let text = printed(alloc, call, answer)?;
-    assert_eq!(rt;
-        text.as_str(),
+    agree(
+        &rt,
+        &DEFINITIONS,
         "journal\t2\n\
         0\taccept\t0\t0\t1\tstructure A.scala\n\
         1\tsettle\t0\tdone\n\
@@ -278,19 +190,41 @@ fn definitions_are_listed(rt: HostRuntime) -> Result<(), Fail> {
         1\toutline\t2\n\
         \t0\tObjectDef\tA\t0-22\n\
         \t1\tValDef\tx\t11-20\n\
-        end\n"
-    );
-    Ok(())
+        end\n",
+    )
 }
+
+static TYPED: Session = Session {
+    scripts: &[&[Wanted::Call]],
+    events: &[
+        Happened::Accept(0, 0, 1, Asked::LoadedTyped("A.scala")),
+        Happened::Done(0),
+    ],
+    answers: &[&[Found::Typed(
+        &[
+            Tree {
+                kind: TreeKind::ValDef,
+                span: (11, 20),
+                ty: Some(Type::Int),
+                sym: Some(&[Step(SymKind::Object, "A"), Step(SymKind::Val, "x")]),
+            },
+            Tree {
+                kind: TreeKind::ValDef,
+                span: (22, 32),
+                ty: Some(Type::Error),
+                sym: Some(&[Step(SymKind::Object, "A"), Step(SymKind::Val, "y")]),
+            },
+        ],
+        &[Finding(Code::P2, (32, 32), "name expected")],
+    )]],
+    problems: &[],
+};
 
 #[test]
 fn a_file_is_typed_with_its_problems(rt: HostRuntime) -> Result<(), Fail> {
-    let alloc = rt.alloc();
-    let answer = typed(alloc)?;
-    let call = Call::LoadedTyped(Text::new(alloc, "A.scala")?);
-    let text = printed(alloc, call, answer)?;
-    assert_eq!(rt;
-        text.as_str(),
+    agree(
+        &rt,
+        &TYPED,
         "journal\t2\n\
         0\taccept\t0\t0\t1\ttyped A.scala\n\
         1\tsettle\t0\tdone\n\
@@ -299,76 +233,98 @@ fn a_file_is_typed_with_its_problems(rt: HostRuntime) -> Result<(), Fail> {
         \tValDef\t11-20\tInt\tval A.x\n\
         \tValDef\t22-32\t<error>\tval A.y\n\
         \t32-32\tP2\tname expected\n\
-        end\n"
-    );
-    Ok(())
+        end\n",
+    )
 }
 
+static ONE_CALL: [&[Wanted]; 1] = [&[Wanted::Call]];
+
+static AT_THE_START: [Happened; 2] = [
+    Happened::Accept(0, 0, 1, Asked::TypeAt("A.scala", 0)),
+    Happened::Done(0),
+];
+
+/// The one answer of a session, and its line without the number of the call.
+type Row = (&'static [&'static [Found]], &'static str);
+
 // An ask at the start of A.scala, with this answer.
-fn agree(rt: &(impl Abort + AllocGlobal), answer: Answer, line: &str) -> Result<(), Fail> {
-    let alloc = rt.alloc();
-    let call = type_at(alloc, 0)?;
-    let text = printed(alloc, call, answer)?;
+fn agree_at_the_start(rt: &(impl Abort + AllocGlobal), row: &Row) -> Result<(), Fail> {
+    let (answers, line) = row;
+    let session = Session {
+        scripts: &ONE_CALL,
+        events: &AT_THE_START,
+        answers,
+        problems: &[],
+    };
     let before = "journal\t2\n\
         0\taccept\t0\t0\t1\ttype A.scala 0\n\
         1\tsettle\t0\tdone\n\
         client\t0\n\
         1\t";
-    assert_eq!(rt;
-        text.as_str(),
-        format!(in alloc; "{before}{line}\nend\n")?.as_str()
-    );
-    Ok(())
+    let expected = format!(in rt.alloc(); "{before}{line}\nend\n")?;
+    agree(rt, &session, expected.as_str())
 }
+
+static WORDS: [Row; 5] = [
+    (&[&[Found::NoUnit]], "nounit"),
+    (&[&[Found::NoTree]], "notree"),
+    (&[&[Found::NoMembers]], "nomembers"),
+    (&[&[Found::NoLink]], "nolink"),
+    (&[&[Found::Unread]], "unread"),
+];
 
 #[test]
 fn answers_of_a_word(rt: HostRuntime) -> Result<(), Fail> {
-    agree(&rt, Answer::NoUnit, "nounit")?;
-    agree(&rt, Answer::NoTree, "notree")?;
-    agree(&rt, Answer::NoMembers, "nomembers")?;
-    agree(&rt, Answer::NoLink, "nolink")?;
-    agree(&rt, Answer::Unread, "unread")
+    for row in &WORDS {
+        agree_at_the_start(&rt, row)?;
+    }
+    Ok(())
 }
+
+static EMPTY_TREE: Row = (
+    &[&[Found::Tree(Tree {
+        kind: TreeKind::Unit,
+        span: (0, 0),
+        ty: None,
+        sym: None,
+    })]],
+    "tree\tUnit\t0-0\t-\t-",
+);
 
 #[test]
 fn a_tree_without_type_and_symbol(rt: HostRuntime) -> Result<(), Fail> {
-    let empty = TreeInfo {
-        kind: TreeKind::Unit,
-        span: span(0, 0),
-        ty: None,
-        sym: None,
-    };
-    agree(&rt, Answer::Tree(empty), "tree\tUnit\t0-0\t-\t-")
+    agree_at_the_start(&rt, &EMPTY_TREE)
 }
 
 // Two checks with their rows, and a third after the last row.
+static CHECKS: Session = Session {
+    scripts: &[],
+    events: &[
+        Happened::Checked("A.scala"),
+        Happened::Checked("C.scala"),
+        Happened::Checked("D.scala"),
+    ],
+    answers: &[],
+    problems: &[
+        &[],
+        &[
+            Finding(Code::N3, (19, 20), "cyclic definition: val C.b"),
+            Finding(Code::N3, (30, 31), "cyclic definition: val C.a"),
+        ],
+    ],
+};
+
 #[test]
 fn checks_print_their_problems(rt: HostRuntime) -> Result<(), Fail> {
-    let alloc = rt.alloc();
-    let cyclic = vec![in alloc;
-        problem(alloc, Code::N3, span(19, 20), "cyclic definition: val C.b")?,
-        problem(alloc, Code::N3, span(30, 31), "cyclic definition: val C.a")?,
-    ]?;
-    let session = Session {
-        scripts: Vec::new(alloc),
-        events: vec![in alloc;
-            checked(alloc, "A.scala")?,
-            checked(alloc, "C.scala")?,
-            checked(alloc, "D.scala")?,
-        ]?,
-        answers: Vec::new(alloc),
-        problems: vec![in alloc; Row::new(alloc), Row::from_vec(cyclic)]?,
-    };
-    let text = session.printed(alloc)?;
-    assert_eq!(rt;
-        text.as_str(),
+    agree(
+        &rt,
+        &CHECKS,
         "journal\t3\n\
         0\tchecked\tA.scala\t0\n\
         1\tchecked\tC.scala\t2\n\
         \t19-20\tN3\tcyclic definition: val C.b\n\
         \t30-31\tN3\tcyclic definition: val C.a\n\
         2\tchecked\tD.scala\t0\n\
-        end\n"
-    );
-    Ok(())
+        end\n",
+    )
 }

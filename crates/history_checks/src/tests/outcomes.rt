@@ -1,41 +1,27 @@
 //! What became of each line of a client.
 
-use super::builders::{A, Session, accept, call, calls, cancel, done, reload, script, type_at};
-use ask_history::{Answer, Event, Mark, Order};
-use pc_terms::{NoMemory, Row};
-use std::alloc::Global;
+use super::found::Found;
+use super::sessions::{A, Asked, Entry, Happened, Session, Wanted, agree};
 use std::test::Fail;
 
-// One client, no checks.
-fn session(
-    alloc: Global,
-    orders: Vec<Order>,
-    events: Vec<Event>,
-    answers: Vec<Answer>,
-) -> Result<Session, NoMemory> {
-    Ok(Session {
-        scripts: vec![in alloc; script(alloc, orders)?]?,
-        events,
-        answers: vec![in alloc; Row::from_vec(answers)]?,
-        problems: Vec::new(alloc),
-    })
-}
+static CANCEL_INSIDE: Session = Session {
+    scripts: &[&[Wanted::Call, Wanted::Call, Wanted::Cancel(2)]],
+    events: &[
+        Happened::Accept(0, 0, 1, Asked::Reload(&[Entry("A.scala", A)])),
+        Happened::Done(0),
+        Happened::Accept(1, 0, 2, Asked::TypeAt("A.scala", 19)),
+        Happened::Cancel(1),
+        Happened::Done(1),
+    ],
+    answers: &[&[Found::Done, Found::Cancelled]],
+    problems: &[],
+};
 
 #[test]
 fn a_cancel_inside_its_ask_is_marked(rt: HostRuntime) -> Result<(), Fail> {
-    let alloc = rt.alloc();
-    let orders = vec![in alloc; call(alloc), call(alloc), Order::Cancel(2)]?;
-    let events = vec![in alloc;
-        accept(0, 0, 1, reload(alloc, &[("A.scala", A)])?),
-        done(0),
-        accept(1, 0, 2, type_at(alloc, 19)?),
-        cancel(1),
-        done(1),
-    ]?;
-    let answers = vec![in alloc; Answer::Done, Answer::Cancelled]?;
-    let text = session(alloc, orders, events, answers)?.printed(alloc)?;
-    assert_eq!(rt;
-        text.as_str(),
+    agree(
+        &rt,
+        &CANCEL_INSIDE,
         "journal\t5\n\
         0\taccept\t0\t0\t1\treload A.scala 22\n\
         1\tsettle\t0\tdone\n\
@@ -46,20 +32,25 @@ fn a_cancel_inside_its_ask_is_marked(rt: HostRuntime) -> Result<(), Fail> {
         1\tdone\n\
         2\tcancelled\n\
         cancel\t2\tmarked\t3\n\
-        end\n"
-    );
-    Ok(())
+        end\n",
+    )
 }
+
+static CANCELS_AFTER: Session = Session {
+    scripts: &[&[Wanted::Call, Wanted::Cancel(1), Wanted::Cancel(2)]],
+    events: &[
+        Happened::Accept(0, 0, 1, Asked::TypeAt("A.scala", 19)),
+        Happened::Done(0),
+    ],
+    answers: &[&[Found::NoUnit]],
+    problems: &[],
+};
 
 #[test]
 fn a_cancel_after_its_ask_is_late_and_of_no_call_none(rt: HostRuntime) -> Result<(), Fail> {
-    let alloc = rt.alloc();
-    let orders = vec![in alloc; call(alloc), Order::Cancel(1), Order::Cancel(2)]?;
-    let events = vec![in alloc; accept(0, 0, 1, type_at(alloc, 19)?), done(0)]?;
-    let answers = vec![in alloc; Answer::NoUnit]?;
-    let text = session(alloc, orders, events, answers)?.printed(alloc)?;
-    assert_eq!(rt;
-        text.as_str(),
+    agree(
+        &rt,
+        &CANCELS_AFTER,
         "journal\t2\n\
         0\taccept\t0\t0\t1\ttype A.scala 19\n\
         1\tsettle\t0\tdone\n\
@@ -67,44 +58,41 @@ fn a_cancel_after_its_ask_is_late_and_of_no_call_none(rt: HostRuntime) -> Result
         1\tnounit\n\
         cancel\t1\tlate\t1\n\
         cancel\t2\tnone\n\
-        end\n"
-    );
-    Ok(())
+        end\n",
+    )
 }
+
+static SHUTDOWN: Session = Session {
+    scripts: &[&[
+        Wanted::Call,
+        Wanted::Call,
+        Wanted::Call,
+        Wanted::Call,
+        Wanted::Close,
+        Wanted::Call,
+        Wanted::Idle,
+        Wanted::Wait(5),
+    ]],
+    events: &[
+        Happened::Accept(0, 0, 1, Asked::Reload(&[Entry("A.scala", A)])),
+        Happened::Done(0),
+        Happened::Accept(1, 0, 2, Asked::TypeAt("A.scala", 19)),
+        Happened::Accept(2, 0, 3, Asked::TypeAt("A.scala", 15)),
+        Happened::Accept(3, 0, 4, Asked::TypeAt("A.scala", 20)),
+        Happened::Close,
+        Happened::Done(1),
+        Happened::Done(2),
+        Happened::Done(3),
+    ],
+    answers: &[&[Found::Done, Found::Closed, Found::Closed, Found::Closed]],
+    problems: &[],
+};
 
 #[test]
 fn a_shutdown_in_the_innermost_ask_answers_all(rt: HostRuntime) -> Result<(), Fail> {
-    let alloc = rt.alloc();
-    let orders = vec![in alloc;
-        call(alloc),
-        call(alloc),
-        call(alloc),
-        call(alloc),
-        Order::Close,
-        call(alloc),
-        Order::Idle,
-        Order::Wait(5),
-    ]?;
-    let events = vec![in alloc;
-        accept(0, 0, 1, reload(alloc, &[("A.scala", A)])?),
-        done(0),
-        accept(1, 0, 2, type_at(alloc, 19)?),
-        accept(2, 0, 3, type_at(alloc, 15)?),
-        accept(3, 0, 4, type_at(alloc, 20)?),
-        Event::Close,
-        done(1),
-        done(2),
-        done(3),
-    ]?;
-    let answers = vec![in alloc;
-        Answer::Done,
-        Answer::Closed,
-        Answer::Closed,
-        Answer::Closed,
-    ]?;
-    let text = session(alloc, orders, events, answers)?.printed(alloc)?;
-    assert_eq!(rt;
-        text.as_str(),
+    agree(
+        &rt,
+        &SHUTDOWN,
         "journal\t9\n\
         0\taccept\t0\t0\t1\treload A.scala 22\n\
         1\tsettle\t0\tdone\n\
@@ -122,65 +110,62 @@ fn a_shutdown_in_the_innermost_ask_answers_all(rt: HostRuntime) -> Result<(), Fa
         4\tclosed\n\
         close\t5\n\
         5\trefused\tclosed\t5\n\
-        end\n"
-    );
-    Ok(())
+        end\n",
+    )
 }
+
+static WITHOUT_ENDS: Session = Session {
+    scripts: &[&[Wanted::Call, Wanted::Call, Wanted::Call, Wanted::Close]],
+    events: &[
+        Happened::Accept(0, 0, 1, Asked::TypeAt("A.scala", 19)),
+        Happened::Accept(1, 0, 2, Asked::TypeAt("A.scala", 20)),
+        Happened::NoMemory(1),
+    ],
+    answers: &[&[Found::NoMemory]],
+    problems: &[],
+};
 
 #[test]
 fn a_call_without_its_end_and_a_line_without_a_shutdown_print_nothing(
     rt: HostRuntime,
 ) -> Result<(), Fail> {
-    let alloc = rt.alloc();
-    let orders = vec![in alloc; call(alloc), call(alloc), call(alloc), Order::Close]?;
-    let events = vec![in alloc;
-        accept(0, 0, 1, type_at(alloc, 19)?),
-        accept(1, 0, 2, type_at(alloc, 20)?),
-        Event::Settle {
-            ticket: 1,
-            mark: Mark::NoMemory
-        },
-    ]?;
-    let answers = vec![in alloc; Answer::NoMemory]?;
-    let text = session(alloc, orders, events, answers)?.printed(alloc)?;
-    assert_eq!(rt;
-        text.as_str(),
+    agree(
+        &rt,
+        &WITHOUT_ENDS,
         "journal\t3\n\
         0\taccept\t0\t0\t1\ttype A.scala 19\n\
         1\taccept\t1\t0\t2\ttype A.scala 20\n\
         2\tsettle\t1\tnomemory\n\
         client\t0\n\
         2\tnomemory\n\
-        end\n"
-    );
-    Ok(())
+        end\n",
+    )
 }
+
+static CLIENTS: Session = Session {
+    scripts: &[
+        &[Wanted::Call, Wanted::Call],
+        &[Wanted::Call, Wanted::Cancel(1)],
+        &[],
+    ],
+    events: &[
+        Happened::Accept(0, 0, 1, Asked::Reload(&[Entry("A.scala", A)])),
+        Happened::Done(0),
+        Happened::Accept(1, 1, 1, Asked::TypeAt("A.scala", 19)),
+        Happened::Accept(2, 0, 2, Asked::TypeAt("A.scala", 23)),
+        Happened::Cancel(1),
+        Happened::Done(2),
+        Happened::Done(1),
+    ],
+    answers: &[&[Found::Done, Found::NoTree], &[Found::Cancelled]],
+    problems: &[],
+};
 
 #[test]
 fn each_client_has_its_own_answers(rt: HostRuntime) -> Result<(), Fail> {
-    let alloc = rt.alloc();
-    let second = vec![in alloc; call(alloc), Order::Cancel(1)]?;
-    let events = vec![in alloc;
-        accept(0, 0, 1, reload(alloc, &[("A.scala", A)])?),
-        done(0),
-        accept(1, 1, 1, type_at(alloc, 19)?),
-        accept(2, 0, 2, type_at(alloc, 23)?),
-        cancel(1),
-        done(2),
-        done(1),
-    ]?;
-    let session = Session {
-        scripts: vec![in alloc; calls(alloc, 2)?, script(alloc, second)?, calls(alloc, 0)?]?,
-        events,
-        answers: vec![in alloc;
-            Row::from_vec(vec![in alloc; Answer::Done, Answer::NoTree]?),
-            Row::from_vec(vec![in alloc; Answer::Cancelled]?),
-        ]?,
-        problems: Vec::new(alloc),
-    };
-    let text = session.printed(alloc)?;
-    assert_eq!(rt;
-        text.as_str(),
+    agree(
+        &rt,
+        &CLIENTS,
         "journal\t7\n\
         0\taccept\t0\t0\t1\treload A.scala 22\n\
         1\tsettle\t0\tdone\n\
@@ -196,7 +181,6 @@ fn each_client_has_its_own_answers(rt: HostRuntime) -> Result<(), Fail> {
         1\tcancelled\n\
         cancel\t1\tmarked\t4\n\
         client\t2\n\
-        end\n"
-    );
-    Ok(())
+        end\n",
+    )
 }
