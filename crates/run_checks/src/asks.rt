@@ -1,6 +1,7 @@
 //! Asks one after the other, and runs whose output fails.
 
-use crate::cases::{A, Case, LITERAL, agree, done, usage};
+use crate::cases::{A, Case, DONE, LITERAL, USAGE, agree};
+use crate::contents::Content::Text;
 use std::test::Fail;
 
 const LITERAL_20: &str = "reload A.scala a.txt\ntype A.scala 20\n";
@@ -23,24 +24,23 @@ const HALF_PRINTED: &str = "journal\t4\n\
     1\tsettle\t0\tdone\n\
     2\taccept\t1\t0\t2\tty";
 
-#[test]
-fn trees_are_printed(rt: HostRuntime) -> Result<(), Fail> {
-    let alloc = rt.alloc();
-    let case = done(
-        alloc,
-        "a literal at its start",
-        &[("s", LITERAL), ("a.txt", A)],
-        LITERAL_PRINTED,
-    )?;
-    agree(&rt, case)?;
-    let case = done(
-        alloc,
-        "a literal at its end, by a schedule with lines that are passed over and without a last LF",
-        &[
-            ("s", "# its end\n\nreload A.scala a.txt\ntype A.scala 20"),
-            ("a.txt", A),
+static TREES: [Case; 3] = [
+    Case {
+        name: "a literal at its start",
+        files: &[("s", Text(LITERAL)), ("a.txt", Text(A))],
+        out: LITERAL_PRINTED,
+        ..DONE
+    },
+    Case {
+        name: "a literal at its end, by a schedule with lines that are passed over and without a last LF",
+        files: &[
+            (
+                "s",
+                Text("# its end\n\nreload A.scala a.txt\ntype A.scala 20"),
+            ),
+            ("a.txt", Text(A)),
         ],
-        "journal\t4\n\
+        out: "journal\t4\n\
             0\taccept\t0\t0\t1\treload A.scala 22\n\
             1\tsettle\t0\tdone\n\
             2\taccept\t1\t0\t2\ttype A.scala 20\n\
@@ -49,19 +49,18 @@ fn trees_are_printed(rt: HostRuntime) -> Result<(), Fail> {
             1\tdone\n\
             2\ttree\tLiteral\t19-20\tInt\t-\n\
             end\n",
-    )?;
-    agree(&rt, case)?;
-    let case = done(
-        alloc,
-        "a definition, an offset past the end of the text, and an object",
-        &[
+        ..DONE
+    },
+    Case {
+        name: "a definition, an offset past the end of the text, and an object",
+        files: &[
             (
                 "s",
-                "reload A.scala a.txt\ntype A.scala 15\ntype A.scala 23\ntype A.scala 0\n",
+                Text("reload A.scala a.txt\ntype A.scala 15\ntype A.scala 23\ntype A.scala 0\n"),
             ),
-            ("a.txt", A),
+            ("a.txt", Text(A)),
         ],
-        "journal\t8\n\
+        out: "journal\t8\n\
             0\taccept\t0\t0\t1\treload A.scala 22\n\
             1\tsettle\t0\tdone\n\
             2\taccept\t1\t0\t2\ttype A.scala 15\n\
@@ -76,32 +75,32 @@ fn trees_are_printed(rt: HostRuntime) -> Result<(), Fail> {
             3\tnotree\n\
             4\ttree\tObjectDef\t0-22\t-\tobject A\n\
             end\n",
-    )?;
-    agree(&rt, case)?;
-    Ok(())
-}
+        ..DONE
+    },
+];
 
 #[test]
-fn asks_see_what_is_loaded(rt: HostRuntime) -> Result<(), Fail> {
-    let alloc = rt.alloc();
-    let case = done(
-        alloc,
-        "a schedule without lines",
-        &[("s", "")],
-        "journal\t0\nclient\t0\nend\n",
-    )?;
-    agree(&rt, case)?;
-    let case = done(
-        alloc,
-        "an empty text, and a file that was never loaded",
-        &[
+fn trees_are_printed(rt: HostRuntime) -> Result<(), Fail> {
+    agree(&rt, &TREES)
+}
+
+static LOADED: [Case; 3] = [
+    Case {
+        name: "a schedule without lines",
+        files: &[("s", Text(""))],
+        out: "journal\t0\nclient\t0\nend\n",
+        ..DONE
+    },
+    Case {
+        name: "an empty text, and a file that was never loaded",
+        files: &[
             (
                 "s",
-                "reload E.scala e.txt\ntype E.scala 0\ntype N.scala 0\n",
+                Text("reload E.scala e.txt\ntype E.scala 0\ntype N.scala 0\n"),
             ),
-            ("e.txt", ""),
+            ("e.txt", Text("")),
         ],
-        "journal\t6\n\
+        out: "journal\t6\n\
             0\taccept\t0\t0\t1\treload E.scala 0\n\
             1\tsettle\t0\tdone\n\
             2\taccept\t1\t0\t2\ttype E.scala 0\n\
@@ -113,20 +112,21 @@ fn asks_see_what_is_loaded(rt: HostRuntime) -> Result<(), Fail> {
             2\ttree\tUnit\t0-0\t-\t-\n\
             3\tnounit\n\
             end\n",
-    )?;
-    agree(&rt, case)?;
-    let case = done(
-        alloc,
-        "a name, once a text with it is loaded",
-        &[
+        ..DONE
+    },
+    Case {
+        name: "a name, once a text with it is loaded",
+        files: &[
             (
                 "s",
-                "reload A.scala a.txt\ntype A.scala 30\nreload A.scala two.txt\ntype A.scala 30\n",
+                Text(
+                    "reload A.scala a.txt\ntype A.scala 30\nreload A.scala two.txt\ntype A.scala 30\n",
+                ),
             ),
-            ("a.txt", A),
-            ("two.txt", TWO_VALS),
+            ("a.txt", Text(A)),
+            ("two.txt", Text(TWO_VALS)),
         ],
-        "journal\t8\n\
+        out: "journal\t8\n\
             0\taccept\t0\t0\t1\treload A.scala 22\n\
             1\tsettle\t0\tdone\n\
             2\taccept\t1\t0\t2\ttype A.scala 30\n\
@@ -141,19 +141,23 @@ fn asks_see_what_is_loaded(rt: HostRuntime) -> Result<(), Fail> {
             3\tdone\n\
             4\ttree\tIdent\t30-31\tInt\tval A.x\n\
             end\n",
-    )?;
-    agree(&rt, case)?;
-    Ok(())
-}
+        ..DONE
+    },
+];
 
 #[test]
-fn bytes_outside_ascii_and_removals(rt: HostRuntime) -> Result<(), Fail> {
-    let alloc = rt.alloc();
-    let case = done(
-        alloc,
-        "a name with a letter of two bytes, which the engine does not read yet",
-        &[("s", LITERAL_20), ("a.txt", "object A { val \u{e9} = 1 }")],
-        "journal\t4\n\
+fn asks_see_what_is_loaded(rt: HostRuntime) -> Result<(), Fail> {
+    agree(&rt, &LOADED)
+}
+
+static BYTES_AND_REMOVALS: [Case; 2] = [
+    Case {
+        name: "a name with a letter of two bytes, which the engine does not read yet",
+        files: &[
+            ("s", Text(LITERAL_20)),
+            ("a.txt", Text("object A { val \u{e9} = 1 }")),
+        ],
+        out: "journal\t4\n\
             0\taccept\t0\t0\t1\treload A.scala 23\n\
             1\tsettle\t0\tdone\n\
             2\taccept\t1\t0\t2\ttype A.scala 20\n\
@@ -162,19 +166,18 @@ fn bytes_outside_ascii_and_removals(rt: HostRuntime) -> Result<(), Fail> {
             1\tdone\n\
             2\tunread\n\
             end\n",
-    )?;
-    agree(&rt, case)?;
-    let case = done(
-        alloc,
-        "a file that was taken out",
-        &[
+        ..DONE
+    },
+    Case {
+        name: "a file that was taken out",
+        files: &[
             (
                 "s",
-                "reload A.scala a.txt\nremove A.scala\ntype A.scala 0\n",
+                Text("reload A.scala a.txt\nremove A.scala\ntype A.scala 0\n"),
             ),
-            ("a.txt", A),
+            ("a.txt", Text(A)),
         ],
-        "journal\t6\n\
+        out: "journal\t6\n\
             0\taccept\t0\t0\t1\treload A.scala 22\n\
             1\tsettle\t0\tdone\n\
             2\taccept\t1\t0\t2\tremove A.scala\n\
@@ -186,47 +189,52 @@ fn bytes_outside_ascii_and_removals(rt: HostRuntime) -> Result<(), Fail> {
             2\tdone\n\
             3\tnounit\n\
             end\n",
-    )?;
-    agree(&rt, case)
+        ..DONE
+    },
+];
+
+#[test]
+fn bytes_outside_ascii_and_removals(rt: HostRuntime) -> Result<(), Fail> {
+    agree(&rt, &BYTES_AND_REMOVALS)
 }
+
+static FAILING_PUTS: [Case; 4] = [
+    Case {
+        name: "a put on the output fails",
+        files: &[("s", Text(LITERAL)), ("a.txt", Text(A))],
+        out_fails: true,
+        status: 5,
+        out: HALF_PRINTED,
+        err: "write fault\n",
+        ..DONE
+    },
+    Case {
+        name: "a put on each sink fails",
+        files: &[("s", Text(LITERAL)), ("a.txt", Text(A))],
+        out_fails: true,
+        err_fails: true,
+        status: 5,
+        out: HALF_PRINTED,
+        err: "write ",
+        ..DONE
+    },
+    Case {
+        name: "a put of the usage fails",
+        words: &[],
+        err_fails: true,
+        err: "usage: batch NAME... or step ",
+        ..USAGE
+    },
+    Case {
+        name: "nothing is put for the user",
+        files: &[("s", Text(LITERAL)), ("a.txt", Text(A))],
+        err_fails: true,
+        out: LITERAL_PRINTED,
+        ..DONE
+    },
+];
 
 #[test]
 fn a_put_fails(rt: HostRuntime) -> Result<(), Fail> {
-    let alloc = rt.alloc();
-    let loaded = [("s", LITERAL), ("a.txt", A)];
-    let out = done(alloc, "a put on the output fails", &loaded, HALF_PRINTED)?;
-    let out = Case {
-        out_fails: true,
-        status: 5,
-        err: "write fault\n",
-        ..out
-    };
-    agree(&rt, out)?;
-    let both = done(alloc, "a put on each sink fails", &loaded, HALF_PRINTED)?;
-    let both = Case {
-        out_fails: true,
-        err_fails: true,
-        status: 5,
-        err: "write ",
-        ..both
-    };
-    agree(&rt, both)?;
-    let told = usage(alloc, "a put of the usage fails", &[])?;
-    let told = Case {
-        err_fails: true,
-        err: "usage: batch NAME... or step ",
-        ..told
-    };
-    agree(&rt, told)?;
-    let silent = done(
-        alloc,
-        "nothing is put for the user",
-        &loaded,
-        LITERAL_PRINTED,
-    )?;
-    let silent = Case {
-        err_fails: true,
-        ..silent
-    };
-    agree(&rt, silent)
+    agree(&rt, &FAILING_PUTS)
 }

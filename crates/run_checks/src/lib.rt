@@ -6,6 +6,8 @@ mod asks;
 #[cfg(test)]
 mod cases;
 #[cfg(test)]
+mod contents;
+#[cfg(test)]
 mod counting;
 #[cfg(test)]
 mod limits;

@@ -1,25 +1,23 @@
 //! Inner lines, cancels, the shutdown and checks.
 
-use crate::cases::{A, A2, Case, agree, done};
+use crate::cases::{A, A2, Case, DONE, agree};
+use crate::contents::Content::Text;
 use std::test::Fail;
 
 // 33 bytes, all of which the engine reads.
 const THIN_B: &str = "object B { val a = 1; val b = a }";
 
-#[test]
-fn asks_are_cancelled(rt: HostRuntime) -> Result<(), Fail> {
-    let alloc = rt.alloc();
-    let case = done(
-        alloc,
-        "a cancel while the ask is open",
-        &[
+static CANCELS: [Case; 2] = [
+    Case {
+        name: "a cancel while the ask is open",
+        files: &[
             (
                 "s",
-                "reload A.scala a.txt\ntype A.scala 19\n  @9 cancel 2\n",
+                Text("reload A.scala a.txt\ntype A.scala 19\n  @9 cancel 2\n"),
             ),
-            ("a.txt", A),
+            ("a.txt", Text(A)),
         ],
-        "journal\t5\n\
+        out: "journal\t5\n\
             0\taccept\t0\t0\t1\treload A.scala 22\n\
             1\tsettle\t0\tdone\n\
             2\taccept\t1\t0\t2\ttype A.scala 19\n\
@@ -30,16 +28,18 @@ fn asks_are_cancelled(rt: HostRuntime) -> Result<(), Fail> {
             2\tcancelled\n\
             cancel\t2\tmarked\t3\n\
             end\n",
-    )?;
-    agree(&rt, case)?;
-    let case = done(
-        alloc,
-        "a cancel after the ask",
-        &[
-            ("s", "reload A.scala a.txt\ntype A.scala 19\ncancel 2\n"),
-            ("a.txt", A),
+        ..DONE
+    },
+    Case {
+        name: "a cancel after the ask",
+        files: &[
+            (
+                "s",
+                Text("reload A.scala a.txt\ntype A.scala 19\ncancel 2\n"),
+            ),
+            ("a.txt", Text(A)),
         ],
-        "journal\t4\n\
+        out: "journal\t4\n\
             0\taccept\t0\t0\t1\treload A.scala 22\n\
             1\tsettle\t0\tdone\n\
             2\taccept\t1\t0\t2\ttype A.scala 19\n\
@@ -49,26 +49,29 @@ fn asks_are_cancelled(rt: HostRuntime) -> Result<(), Fail> {
             2\ttree\tLiteral\t19-20\tInt\t-\n\
             cancel\t2\tlate\t3\n\
             end\n",
-    )?;
-    agree(&rt, case)
-}
+        ..DONE
+    },
+];
 
 #[test]
-fn a_shutdown_settles_what_is_open(rt: HostRuntime) -> Result<(), Fail> {
-    let alloc = rt.alloc();
-    let case = done(
-        alloc,
-        "a shutdown inside three asks",
-        &[
-            (
-                "s",
+fn asks_are_cancelled(rt: HostRuntime) -> Result<(), Fail> {
+    agree(&rt, &CANCELS)
+}
+
+static SHUTDOWN: [Case; 1] = [Case {
+    name: "a shutdown inside three asks",
+    files: &[
+        (
+            "s",
+            Text(
                 "reload A.scala a.txt\n\
                 type A.scala 19\n  @0 type A.scala 15\n    @0 type A.scala 20\n      @0 close\n\
                 type A.scala 19\n",
             ),
-            ("a.txt", A),
-        ],
-        "journal\t9\n\
+        ),
+        ("a.txt", Text(A)),
+    ],
+    out: "journal\t9\n\
             0\taccept\t0\t0\t1\treload A.scala 22\n\
             1\tsettle\t0\tdone\n\
             2\taccept\t1\t0\t2\ttype A.scala 19\n\
@@ -86,26 +89,28 @@ fn a_shutdown_settles_what_is_open(rt: HostRuntime) -> Result<(), Fail> {
             close\t5\n\
             5\trefused\tclosed\t5\n\
             end\n",
-    )?;
-    agree(&rt, case)
-}
+    ..DONE
+}];
 
 #[test]
-fn inner_lines_keep_their_order(rt: HostRuntime) -> Result<(), Fail> {
-    let alloc = rt.alloc();
-    let case = done(
-        alloc,
-        "a removal and a reload inside an ask",
-        &[
-            (
-                "s",
+fn a_shutdown_settles_what_is_open(rt: HostRuntime) -> Result<(), Fail> {
+    agree(&rt, &SHUTDOWN)
+}
+
+static INNER_LINES: [Case; 1] = [Case {
+    name: "a removal and a reload inside an ask",
+    files: &[
+        (
+            "s",
+            Text(
                 "reload A.scala a.txt\n\
                 type A.scala 19\n  @0 remove A.scala\n  @0 reload A.scala a2.txt\n",
             ),
-            ("a.txt", A),
-            ("a2.txt", A2),
-        ],
-        "journal\t8\n\
+        ),
+        ("a.txt", Text(A)),
+        ("a2.txt", Text(A2)),
+    ],
+    out: "journal\t8\n\
             0\taccept\t0\t0\t1\treload A.scala 22\n\
             1\tsettle\t0\tdone\n\
             2\taccept\t1\t0\t2\ttype A.scala 19\n\
@@ -120,39 +125,43 @@ fn inner_lines_keep_their_order(rt: HostRuntime) -> Result<(), Fail> {
             3\tdone\n\
             4\tdone\n\
             end\n",
-    )?;
-    agree(&rt, case)
-}
+    ..DONE
+}];
 
 #[test]
-fn checks_are_made_and_told(rt: HostRuntime) -> Result<(), Fail> {
-    let alloc = rt.alloc();
-    let case = done(
-        alloc,
-        "one check, and then nothing is due",
-        &[("s", "reload A.scala a.txt\nidle\nidle\n"), ("a.txt", A)],
-        "journal\t3\n\
+fn inner_lines_keep_their_order(rt: HostRuntime) -> Result<(), Fail> {
+    agree(&rt, &INNER_LINES)
+}
+
+static CHECKS: [Case; 2] = [
+    Case {
+        name: "one check, and then nothing is due",
+        files: &[
+            ("s", Text("reload A.scala a.txt\nidle\nidle\n")),
+            ("a.txt", Text(A)),
+        ],
+        out: "journal\t3\n\
             0\taccept\t0\t0\t1\treload A.scala 22\n\
             1\tsettle\t0\tdone\n\
             2\tchecked\tA.scala\t0\n\
             client\t0\n\
             1\tdone\n\
             end\n",
-    )?;
-    agree(&rt, Case { told: 1, ..case })?;
-    let case = done(
-        alloc,
-        "a reload inside the second check",
-        &[
+        told: 1,
+        ..DONE
+    },
+    Case {
+        name: "a reload inside the second check",
+        files: &[
             (
                 "s",
-                "reload A.scala a.txt B.scala b.txt\nidle\n  @1.0 reload A.scala a2.txt\n",
+                Text("reload A.scala a.txt B.scala b.txt\nidle\n  @1.0 reload A.scala a2.txt\n"),
             ),
-            ("a.txt", A),
-            ("b.txt", THIN_B),
-            ("a2.txt", A2),
+            ("a.txt", Text(A)),
+            ("b.txt", Text(THIN_B)),
+            ("a2.txt", Text(A2)),
         ],
-        "journal\t7\n\
+        out: "journal\t7\n\
             0\taccept\t0\t0\t1\treload A.scala 22 B.scala 33\n\
             1\tsettle\t0\tdone\n\
             2\tchecked\tA.scala\t0\n\
@@ -164,6 +173,12 @@ fn checks_are_made_and_told(rt: HostRuntime) -> Result<(), Fail> {
             1\tdone\n\
             2\tdone\n\
             end\n",
-    )?;
-    agree(&rt, Case { told: 112, ..case })
+        told: 112,
+        ..DONE
+    },
+];
+
+#[test]
+fn checks_are_made_and_told(rt: HostRuntime) -> Result<(), Fail> {
+    agree(&rt, &CHECKS)
 }

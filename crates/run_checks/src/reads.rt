@@ -1,19 +1,13 @@
 //! Which files a run reads, and runs of which a read fails.
 
-use crate::cases::{agree, done, reads, refused, with_failing_read};
+use crate::cases::{Case, DONE, agree, reads};
+use crate::contents::Content::Text;
 use std::test::Fail;
 
-const FILES: [(&str, &str); 3] = [
-    (
-        "s",
-        "reload A.scala a.txt B.scala b.txt\n\
-            reload A.scala a.txt\n\
-            type A.scala 0\n\
-            \x20 @0 reload B.scala a.txt C.scala b.txt\n",
-    ),
-    ("a.txt", ""),
-    ("b.txt", "object B { val x = 1 }"),
-];
+const SCHEDULE: &str = "reload A.scala a.txt B.scala b.txt\n\
+    reload A.scala a.txt\n\
+    type A.scala 0\n\
+    \x20 @0 reload B.scala a.txt C.scala b.txt\n";
 
 const PRINTED: &str = "journal\t8\n\
     0\taccept\t0\t0\t1\treload A.scala 0 B.scala 22\n\
@@ -31,11 +25,24 @@ const PRINTED: &str = "journal\t8\n\
     4\tdone\n\
     end\n";
 
+const LOADING: Case = Case {
+    files: &[
+        ("s", Text(SCHEDULE)),
+        ("a.txt", Text("")),
+        ("b.txt", Text("object B { val x = 1 }")),
+    ],
+    ..DONE
+};
+
+static SEVERAL_LINES: Case = Case {
+    name: "paths that several lines name",
+    out: PRINTED,
+    ..LOADING
+};
+
 #[test]
 fn each_file_is_read_once(rt: HostRuntime) -> Result<(), Fail> {
-    let alloc = rt.alloc();
-    let case = done(alloc, "paths that several lines name", &FILES, PRINTED)?;
-    let reads = reads(alloc, case)?;
+    let reads = reads(rt.alloc(), &SEVERAL_LINES)?;
     let reads = reads.as_slice();
     assert_eq!(rt; reads.len(), 3);
     assert_eq!(rt; reads[0].as_str(), "s");
@@ -44,27 +51,37 @@ fn each_file_is_read_once(rt: HostRuntime) -> Result<(), Fail> {
     Ok(())
 }
 
+static FAILING_READS: [Case; 4] = [
+    Case {
+        name: "a fourth read fails",
+        failing: &[4],
+        out: PRINTED,
+        ..LOADING
+    },
+    Case {
+        name: "the third read fails",
+        failing: &[3],
+        status: 3,
+        err: "read fault: b.txt\n",
+        ..LOADING
+    },
+    Case {
+        name: "the second read fails",
+        failing: &[2],
+        status: 3,
+        err: "read fault: a.txt\n",
+        ..LOADING
+    },
+    Case {
+        name: "the first read fails",
+        failing: &[1],
+        status: 3,
+        err: "read fault: s\n",
+        ..LOADING
+    },
+];
+
 #[test]
 fn a_read_fails(rt: HostRuntime) -> Result<(), Fail> {
-    let alloc = rt.alloc();
-    let case = done(alloc, "a fourth read fails", &FILES, PRINTED)?;
-    agree(&rt, with_failing_read(alloc, case, 4, &FILES)?)?;
-    let case = refused(
-        alloc,
-        "the third read fails",
-        &FILES,
-        3,
-        "read fault: b.txt\n",
-    )?;
-    agree(&rt, with_failing_read(alloc, case, 3, &FILES)?)?;
-    let case = refused(
-        alloc,
-        "the second read fails",
-        &FILES,
-        3,
-        "read fault: a.txt\n",
-    )?;
-    agree(&rt, with_failing_read(alloc, case, 2, &FILES)?)?;
-    let case = refused(alloc, "the first read fails", &FILES, 3, "read fault: s\n")?;
-    agree(&rt, with_failing_read(alloc, case, 1, &FILES)?)
+    agree(&rt, &FAILING_READS)
 }

@@ -8,8 +8,8 @@ use std::alloc::Global;
 use std::sync::Arc;
 use std::sync::atomic::{AtomicU64, Ordering};
 
-// It writes a digit for each entry at the end of the log: 1 for a file whose name begins with `A`, and 2 for another. It takes
-// no problems.
+// It writes a digit for each entry at the end of the log: 1 for a file whose name begins with `A`, and 2 for another.
+// It takes no problems.
 pub struct Listener {
     told: Row<(Text, Row<Problem>)>,
     faults: u64,
@@ -28,7 +28,8 @@ impl Listener {
     }
 
     fn keep(&mut self, file: &Text, problems: &Row<Problem>) -> Result<(), NoMemory>
-        ensures ok { OnOk result ((self.new.told ≡ self.old.told ++ (file.now, problems.now) ∷ []) × (self.new.faults ≡ self.old.faults)) }
+        ensures ok { OnOk result ((self.new.told ≡ self.old.told ++ (file.now, problems.now) ∷ [])
+            × (self.new.faults ≡ self.old.faults)) }
         ensures err { OnErr result ((self.new.told ≡ self.old.told) × (self.new.faults ≡ self.old.faults)) }
     {
         if !problems.is_empty() {
