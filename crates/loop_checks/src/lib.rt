@@ -2,6 +2,10 @@
 #![tactic(auto)]
 
 #[cfg(test)]
+mod calls;
+#[cfg(test)]
+mod player;
+#[cfg(test)]
 mod plays;
 #[cfg(test)]
 mod tests;

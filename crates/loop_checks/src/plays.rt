@@ -1,18 +1,9 @@
 //! What a core does, act by act: asks that wait for one another, mutations under them, and the checks between them.
 
-ghost use Rattle.std.specs.Prelude.{◌≡◌, ◌<◌, ◌≤◌, ◌+◌, ◌*◌, ◌==◌, if◌then◌else◌, [], true, false, not, None};
-ghost use Rattle.std.specs.Prelude.{map, filter, length, All, OnOk, OnErr};
-ghost use Rattle.std.specs.Bool.{OnTrue};
-ghost use Rattle.std.specs.List.{list_all, list_any};
-ghost use Rattle.ask_history.specs.Engine.{HasFileSizes, has_file_names, is_file_name, is_open_in};
-ghost use Rattle.pc_terms.specs.Bytes.{max_source_bytes};
-ghost use Rattle.ask_history.specs.Sources.{Sources, is_mutation, mutated};
-ghost use Rattle.compiler_loop.specs.CoreState.{state_of};
-
-use crate::tests::is_name;
-use ask_history::{Answer, Call, Effect, Engine, Fed, Turn};
-use compiler_loop::Core;
-use pc_terms::{MAX_SOURCE_BYTES, NoMemory, Problem, Row, Text};
+use crate::calls::{one_entry, one_name};
+use crate::player::Player;
+use ask_history::{Answer, Call, Effect, Turn};
+use pc_terms::{NoMemory, Problem, Text};
 use std::alloc::Global;
 use std::fmt::Write;
 use std::process::Abort;
@@ -193,18 +184,6 @@ fn change_call(alloc: Global, change: Change) -> Result<Call, NoMemory> {
     }
 }
 
-fn one_entry(alloc: Global, name: &str, text: &str) -> Result<Row<(Text, Text)>, NoMemory> {
-    let mut entries = Row::new(alloc);
-    entries.push((Text::new(alloc, name)?, Text::new(alloc, text)?))?;
-    Ok(entries)
-}
-
-fn one_name(alloc: Global, name: &str) -> Result<Row<Text>, NoMemory> {
-    let mut names = Row::new(alloc);
-    names.push(Text::new(alloc, name)?)?;
-    Ok(names)
-}
-
 fn ask_call(alloc: Global, kind: Kind, file: &str, offset: u32) -> Result<Call, NoMemory> {
     let file = Text::new(alloc, file)?;
     Ok(match kind {
@@ -215,192 +194,6 @@ fn ask_call(alloc: Global, kind: Kind, file: &str, offset: u32) -> Result<Call, 
         Kind::Structure => Call::Structure(file),
         Kind::Typed => Call::LoadedTyped(file),
     })
-}
-
-fn has_file_texts(entries: &[(Text, Text)]) -> bool
-    ensures { OnTrue result (All (λ entry. length entry.1 ≤ max_source_bytes) entries.now) }
-{
-    entries
-        .iter()
-        .all(|entry| entry.1.len() <= MAX_SOURCE_BYTES)
-}
-
-fn has_entry_names(entries: &[(Text, Text)]) -> bool
-    ensures { OnTrue result (list_all (λ entry. is_file_name entry.0) entries.now ≡ true) }
-{
-    for entry in entries {
-        if !is_name(entry.0.as_str()) {
-            return false;
-        }
-    }
-    true
-}
-
-fn has_names(names: &[Text]) -> bool
-    ensures { OnTrue result (list_all is_file_name names.now ≡ true) }
-{
-    for name in names {
-        if !is_name(name.as_str()) {
-            return false;
-        }
-    }
-    true
-}
-
-// Whether a call may be fed, and loads two files at most.
-#[tactic(auto, using(crate::proofs::Sizes::length_reloaded, crate::proofs::Sizes::length_removed))]
-fn can_feed(call: &Call) -> bool
-    ensures sizes { OnTrue result (HasFileSizes call.now) }
-    ensures names { OnTrue result (has_file_names call.now ≡ true) }
-    ensures few { OnTrue result ((files : Sources) → length (mutated files call.now) ≤ length files + 2) }
-{
-    match call {
-        Call::Reload(entries) => {
-            let entries = entries.as_slice();
-            entries.len() <= 2 && has_file_texts(entries) && has_entry_names(entries)
-        }
-        Call::Remove(names) => has_names(names.as_slice()),
-        Call::TypeAt(file, _) | Call::MembersAt(file, _) | Call::ScopeAt(file, _) => is_name(
-            file.as_str(),
-        ),
-        Call::LinkAt(file, _) | Call::Structure(file) | Call::LoadedTyped(file) => is_name(
-            file.as_str(),
-        ),
-    }
-}
-
-fn is_change(call: &Call) -> bool
-    ensures { result ≡ is_mutation call.now }
-{
-    match call {
-        Call::Reload(_) | Call::Remove(_) => true,
-        _ => false,
-    }
-}
-
-// ---- the player
-
-/// A core with nothing staged, the tickets of its open asks, and how often it was fed a mutation of two files at most.
-#[derive(Drop)]
-struct Player {
-    core: Core,
-    open: Vec<u64>,
-    mutations: u32,
-    ghost asks: { map (λ ask. ask.0) (state_of core).asks ≡ open.items },
-    ghost staged: { (state_of core).staged ≡ None },
-    ghost few: { length (state_of core).sources ≤ 2 * mutations },
-}
-
-const MUTATION: u64 = 1000;
-
-// What a core is left with, once it was fed a mutation.
-fn mutate(core: &mut Core, call: &Call, stops: bool, effect: Effect) -> Result<(), NoMemory>
-    requires mutation { is_mutation call.now ≡ true }
-    requires staged { (state_of core.old).staged ≡ None }
-    requires asks { is_open_in (state_of core.old).asks MUTATION ≡ false }
-    requires sizes { HasFileSizes call.now }
-    requires names { has_file_names call.now ≡ true }
-    requires two { (files : Sources) → length (mutated files call.now) ≤ length files + 2 }
-    requires few { length (state_of core.old).sources < 10000 }
-    ensures staged { (state_of core.new).staged ≡ None }
-    ensures asks { OnOk result ((state_of core.new).asks ≡ (if stops then [] else (state_of core.old).asks)) }
-    ensures err { OnErr result (state_of core.new ≡ state_of core.old) }
-    ensures few { OnOk result (length (state_of core.new).sources ≤ length (state_of core.old).sources + 2) }
-{
-    match core.feed(MUTATION, call) {
-        Fed::Staged => {
-            if stops {
-                core.stop();
-            }
-            core.settled(MUTATION, effect);
-            Ok(())
-        }
-        Fed::NoMemory => Err(NoMemory {}),
-        Fed::Taken => unreachable!(),
-    }
-}
-
-fn is_among(open: &[u64], ticket: u64) -> bool
-    ensures { result ≡ list_any (λ other. other == ticket) open.now }
-{
-    open.iter().any(|other| *other == ticket)
-}
-
-fn leave_out(open: &mut Vec<u64>, ticket: u64)
-    ensures { open.new.items ≡ filter (λ other. not (other == ticket)) open.old.items }
-{
-    open.retain(|other| *other != ticket);
-}
-
-impl Player {
-    fn new(alloc: Global) -> Result<Player, NoMemory> {
-        Ok(Player {
-            core: Core::new(alloc)?,
-            open: Vec::new(alloc),
-            mutations: 0,
-        })
-    }
-
-    fn is_open(&self, ticket: u64) -> bool
-        ensures { result ≡ is_open_in (state_of self.now.core).asks ticket }
-    {
-        is_among(self.open.as_slice(), ticket)
-    }
-
-    fn put(&mut self, call: &Call, stops: bool, effect: Effect) -> Result<(), NoMemory>
-        requires mutation { is_mutation call.now ≡ true }
-        requires sizes { HasFileSizes call.now }
-        requires names { has_file_names call.now ≡ true }
-        requires few { (files : Sources) → length (mutated files call.now) ≤ length files + 2 }
-    {
-        if self.mutations >= 1000 || self.is_open(MUTATION) {
-            return Err(NoMemory {});
-        }
-        mutate(&mut self.core, call, stops, effect)?;
-        if stops {
-            self.open.clear();
-        }
-        self.mutations += 1;
-        Ok(())
-    }
-
-    fn ask(&mut self, ticket: u64, call: &Call) -> Result<(), NoMemory>
-        requires ask { is_mutation call.now ≡ false }
-        requires sizes { HasFileSizes call.now }
-        requires names { has_file_names call.now ≡ true }
-        requires few { (files : Sources) → length (mutated files call.now) ≤ length files + 2 }
-    {
-        if self.mutations >= 1000 || self.is_open(ticket) {
-            return Err(NoMemory {});
-        }
-        self.open.reserve(1)?;
-        match self.core.feed(ticket, call) {
-            Fed::Taken => {
-                self.open.push_reserved(ticket);
-                Ok(())
-            }
-            Fed::NoMemory => Err(NoMemory {}),
-            Fed::Staged => unreachable!(),
-        }
-    }
-
-    fn settle(&mut self, ticket: u64) -> bool {
-        if !self.is_open(ticket) {
-            return false;
-        }
-        self.core.settled(ticket, Effect::Dropped);
-        leave_out(&mut self.open, ticket);
-        true
-    }
-
-    fn stop(&mut self) {
-        self.core.stop();
-        self.open.clear();
-    }
-
-    fn turn(&mut self) -> Turn {
-        self.core.turn(1)
-    }
 }
 
 // ---- what comes of an act, as the rows have it
@@ -444,12 +237,8 @@ fn shown_turn(alloc: Global, turn: &Turn) -> Result<String, NoMemory> {
     }
 }
 
-fn fed(alloc: Global, player: &mut Player, ticket: u64, call: &Call) -> Result<String, NoMemory> {
-    if !can_feed(call) || is_change(call) {
-        return Ok(String::from_str(alloc, "refused")?);
-    }
-    player.ask(ticket, call)?;
-    Ok(String::from_str(alloc, "taken")?)
+fn word_if(made: bool, word: &'static str) -> &'static str {
+    if made { word } else { "refused" }
 }
 
 fn changed(
@@ -458,50 +247,68 @@ fn changed(
     change: Change,
     stops: bool,
     effect: Effect,
-) -> Result<String, NoMemory> {
+) -> Result<&'static str, NoMemory> {
     let call = change_call(alloc, change)?;
-    if !can_feed(&call) || !is_change(&call) {
-        return Ok(String::from_str(alloc, "refused")?);
-    }
-    player.put(&call, stops, effect)?;
-    Ok(String::from_str(alloc, "done")?)
+    Ok(word_if(player.change(&call, stops, effect)?, "done"))
 }
 
-fn acted(alloc: Global, player: &mut Player, act: Act) -> Result<String, NoMemory> {
+fn fed(
+    alloc: Global,
+    player: &mut Player,
+    ticket: u64,
+    kind: Kind,
+    file: &str,
+    offset: u32,
+) -> Result<&'static str, NoMemory> {
+    let call = ask_call(alloc, kind, file, offset)?;
+    Ok(word_if(player.feed(ticket, &call)?, "taken"))
+}
+
+// What comes of an act other than a turn.
+fn acted(alloc: Global, player: &mut Player, act: Act) -> Result<&'static str, NoMemory> {
     match act {
         Act::Put(change) => changed(alloc, player, change, false, Effect::Applies),
         Act::Drop(change) => changed(alloc, player, change, false, Effect::Dropped),
         Act::StopAndPut(change) => changed(alloc, player, change, true, Effect::Applies),
-        Act::Ask(ticket, kind, file, offset) => {
-            let call = ask_call(alloc, kind, file, offset)?;
-            fed(alloc, player, ticket, &call)
-        }
-        Act::Turn => {
-            let turn = player.turn();
-            shown_turn(alloc, &turn)
-        }
-        Act::Settle(ticket) => {
-            let word = if player.settle(ticket) {
-                "done"
-            } else {
-                "refused"
-            };
-            Ok(String::from_str(alloc, word)?)
-        }
+        Act::Ask(ticket, kind, file, offset) => fed(alloc, player, ticket, kind, file, offset),
+        Act::Settle(ticket) => Ok(word_if(player.settle(ticket), "done")),
         Act::Stop => {
             player.stop();
-            Ok(String::from_str(alloc, "done")?)
+            Ok("done")
         }
+        Act::Turn => Ok("a turn"),
     }
+}
+
+fn turned(alloc: Global, player: &mut Player) -> Result<String, NoMemory> {
+    let turn = player.turn();
+    shown_turn(alloc, &turn)
+}
+
+fn agree(rt: &(impl Abort + AllocGlobal), player: &mut Player, step: &Step) -> Result<(), Fail> {
+    let (act, wanted) = *step;
+    if matches!(act, Act::Turn) {
+        assert_eq!(rt; turned(rt.alloc(), player)?.as_str(), wanted, "{act:?}");
+    } else {
+        assert_eq!(rt; acted(rt.alloc(), player, act)?, wanted, "{act:?}");
+    }
+    Ok(())
+}
+
+fn play_on(
+    rt: &(impl Abort + AllocGlobal),
+    player: &mut Player,
+    steps: &[Step],
+) -> Result<(), Fail> {
+    for step in steps {
+        agree(rt, player, step)?;
+    }
+    Ok(())
 }
 
 fn play(rt: &(impl Abort + AllocGlobal), steps: &[Step]) -> Result<(), Fail> {
     let mut player = Player::new(rt.alloc())?;
-    for (act, wanted) in steps {
-        let shown = acted(rt.alloc(), &mut player, *act)?;
-        assert_eq!(rt; shown.as_str(), *wanted, "{act:?}");
-    }
-    Ok(())
+    play_on(rt, &mut player, steps)
 }
 
 #[test]

@@ -1,16 +1,10 @@
 //! What a core answers about the tree at an offset. In each row one ▮ marks the offset of the ask, and two the
 //! span of the tree that is found.
 
-ghost use Rattle.std.specs.Prelude.{◌≡◌, ◌<◌, ◌≤◌, ◌+◌, [], ◌∷◌, true, None, length};
-ghost use Rattle.std.specs.Result.{IfOk, OnOk};
-ghost use Rattle.ask_history.specs.Engine.{is_file_name};
-ghost use Rattle.ask_history.specs.declared.calls.Call.TheVariants.{Reload};
-ghost use Rattle.compiler_loop.specs.CoreState.{state_of};
-ghost use Rattle.pc_terms.specs.Bytes.{max_source_bytes};
-
-use ask_history::{Answer, Call, Effect, Engine, Fed, TreeInfo, Turn};
-use compiler_loop::Core;
-use pc_terms::{MAX_SOURCE_BYTES, NoMemory, Row, Text, show, show_symbol};
+use crate::calls::one_entry;
+use crate::player::Player;
+use ask_history::{Answer, Call, Effect, TreeInfo, Turn};
+use pc_terms::{NoMemory, Text, show, show_symbol};
 use std::alloc::Global;
 use std::fmt::Write;
 use std::process::Abort;
@@ -114,69 +108,33 @@ static UNREAD: [&str; 16] = [
     " ",
 ];
 
-/// Whether a file may have this name.
-pub fn is_name(name: &str) -> bool
-    ensures { result ≡ is_file_name name.now }
-{
-    match name.as_bytes() {
-        [] => false,
-        [first, ..] => *first != b'<',
-    }
-}
+/// A name and a text.
+type File<'a> = (&'a str, &'a str);
 
-fn reload(alloc: Global, name: &str, text: &str) -> Result<Call, NoMemory>
-    ensures { IfOk result (λ call. call ≡ Reload ((name.now, text.now) ∷ [])) }
-{
-    let mut entries = Row::new(alloc);
-    entries.push((Text::new(alloc, name)?, Text::new(alloc, text)?))?;
-    Ok(Call::Reload(entries))
-}
-
-// Has a core reload one file, and put it in force.
-#[tactic(auto, using(ask_history::proofs::Loads::length_put_file))]
-fn load(alloc: Global, core: &mut Core, ticket: u64, name: &str, text: &str) -> Result<(), NoMemory>
-    requires nothing_open { (state_of core.old).asks ≡ [] }
-    requires nothing_staged { (state_of core.old).staged ≡ None }
-    requires name { is_file_name name.now ≡ true }
-    requires small { length text.now ≤ max_source_bytes }
-    requires few { length (state_of core.old).sources < 1024 }
-    ensures nothing_open { OnOk result ((state_of core.new).asks ≡ []) }
-    ensures nothing_staged { OnOk result ((state_of core.new).staged ≡ None) }
-    ensures files { OnOk result (length (state_of core.new).sources ≤ length (state_of core.old).sources + 1) }
-{
-    let call = reload(alloc, name, text)?;
-    match core.feed(ticket, &call) {
-        Fed::Staged => {
-            core.settled(ticket, Effect::Applies);
-            Ok(())
+// Reloads these files, one after the other.
+fn load(alloc: Global, player: &mut Player, files: &[File]) -> Result<bool, NoMemory> {
+    for (name, text) in files {
+        let call = Call::Reload(one_entry(alloc, name, text)?);
+        if !player.change(&call, false, Effect::Applies)? {
+            return Ok(false);
         }
-        Fed::NoMemory => Err(NoMemory {}),
-        Fed::Taken => unreachable!(),
     }
+    Ok(true)
 }
 
-// The answer of an ask that is fed, answered and settled. `None` where a turn gives none, or the ask stays open.
-fn ask(
-    alloc: Global,
-    core: &mut Core,
-    ticket: u64,
-    file: &str,
-    offset: u32,
-) -> Result<Option<Answer>, NoMemory>
-    requires nothing_open { (state_of core.old).asks ≡ [] }
-    requires nothing_staged { (state_of core.old).staged ≡ None }
-    requires name { is_file_name file.now ≡ true }
-    requires few { length (state_of core.old).sources ≤ 1024 }
-{
+const TICKET: u64 = 1;
+
+// Feeds an ask about the tree at an offset.
+fn feed(alloc: Global, player: &mut Player, file: &str, offset: u32) -> Result<bool, NoMemory> {
     let call = Call::TypeAt(Text::new(alloc, file)?, offset);
-    match core.feed(ticket, &call) {
-        Fed::Taken => {}
-        Fed::NoMemory => return Err(NoMemory {}),
-        Fed::Staged => unreachable!(),
-    }
-    let turn = core.turn(1);
-    core.settled(ticket, Effect::Dropped);
-    let next = core.turn(1);
+    player.feed(TICKET, &call)
+}
+
+// The answer of the ask, which is then settled. `None` where a turn gives none, or the ask stays open.
+fn answered_ask(player: &mut Player) -> Result<Option<Answer>, NoMemory> {
+    let turn = player.turn();
+    player.settle(TICKET);
+    let next = player.turn();
     match (turn, next) {
         (Turn::Ready(_, answer), Turn::Checked(_, _)) => Ok(Some(answer)),
         (Turn::NoMemory(_), _) => Err(NoMemory {}),
@@ -223,31 +181,43 @@ fn shown(alloc: Global, text: &str, answer: &Option<Answer>) -> Result<String, N
     }
 }
 
-// The answer about an offset of the only file.
-fn answer_of_one(alloc: Global, text: &str, offset: u32) -> Result<Option<Answer>, NoMemory>
-    requires { length text.now ≤ max_source_bytes }
-{
-    let mut core = Core::new(alloc)?;
-    load(alloc, &mut core, 0, "A.scala", text)?;
-    ask(alloc, &mut core, 1, "A.scala", offset)
+// The answer about an offset of a file, once these files were reloaded.
+fn answer_of(
+    alloc: Global,
+    player: &mut Player,
+    files: &[File],
+    file: &str,
+    offset: u32,
+) -> Result<Option<Answer>, NoMemory> {
+    if load(alloc, player, files)? && feed(alloc, player, file, offset)? {
+        answered_ask(player)
+    } else {
+        Ok(None)
+    }
 }
 
-fn answered(alloc: Global, text: &str, offset: u32) -> Result<String, NoMemory>
-    requires { length text.now ≤ max_source_bytes }
-{
-    let answer = answer_of_one(alloc, text, offset)?;
+fn answered(
+    alloc: Global,
+    files: &[File],
+    file: &str,
+    text: &str,
+    offset: u32,
+) -> Result<String, NoMemory> {
+    let mut player = Player::new(alloc)?;
+    let answer = answer_of(alloc, &mut player, files, file, offset)?;
     shown(alloc, text, &answer)
+}
+
+// What is answered of the only file.
+fn answered_alone(alloc: Global, text: &str, offset: u32) -> Result<String, NoMemory> {
+    answered(alloc, &[("A.scala", text)], "A.scala", text, offset)
 }
 
 fn agree(rt: &(impl Abort + AllocGlobal), rows: &[Asked]) -> Result<(), Fail> {
     for (marked, found) in rows {
         let (text, offset) = unmarked(rt.alloc(), marked)?;
-        assert!(rt; text.len() <= MAX_SOURCE_BYTES);
-        assert_eq!(rt;
-            answered(rt.alloc(), text.as_str(), offset)?.as_str(),
-            *found,
-            "{marked}"
-        );
+        let shown = answered_alone(rt.alloc(), text.as_str(), offset)?;
+        assert_eq!(rt; shown.as_str(), *found, "{marked}");
     }
     Ok(())
 }
@@ -275,19 +245,19 @@ fn a_file_without_text(rt: HostRuntime) -> Result<(), Fail> {
 #[test]
 fn no_tree_is_past_the_end(rt: HostRuntime) -> Result<(), Fail> {
     let alloc = rt.alloc();
-    assert_eq!(rt; answered(alloc, "", 1)?.as_str(), "no tree");
-    assert_eq!(rt;
-        answered(alloc, "object A { val x = 1 }", 23)?.as_str(),
-        "no tree"
-    );
+    assert_eq!(rt; answered_alone(alloc, "", 1)?.as_str(), "no tree");
+    assert_eq!(rt; answered_alone(alloc, ONE_VAL, 23)?.as_str(), "no tree");
     Ok(())
 }
 
 #[test]
 fn texts_that_are_not_read_yet(rt: HostRuntime) -> Result<(), Fail> {
     for text in &UNREAD {
-        assert!(rt; text.len() <= MAX_SOURCE_BYTES);
-        assert_eq!(rt; answered(rt.alloc(), text, 0)?.as_str(), "unread", "{text}");
+        assert_eq!(rt;
+            answered_alone(rt.alloc(), text, 0)?.as_str(),
+            "unread",
+            "{text}"
+        );
     }
     Ok(())
 }
@@ -298,85 +268,80 @@ const ONE_VAL: &str = "object A { val x = 1 }";
 
 const LATER_VAL: &str = "object B { val a = b; val b = 1 }";
 
-// The answer about an offset of this file, once two files were reloaded.
-fn answer_of_two(
-    alloc: Global,
-    first: (&str, &str),
-    second: (&str, &str),
-    file: &str,
-    offset: u32,
-) -> Result<Option<Answer>, NoMemory>
-    requires first_name { is_file_name first.0.now ≡ true }
-    requires second_name { is_file_name second.0.now ≡ true }
-    requires name { is_file_name file.now ≡ true }
-    requires first { length first.1.now ≤ max_source_bytes }
-    requires second { length second.1.now ≤ max_source_bytes }
-{
-    let mut core = Core::new(alloc)?;
-    load(alloc, &mut core, 0, first.0, first.1)?;
-    load(alloc, &mut core, 1, second.0, second.1)?;
-    ask(alloc, &mut core, 2, file, offset)
-}
+/// Two files, the file of an ask, its text with the offset, and what is answered.
+type AskedOfTwo = ([File<'static>; 2], &'static str, &'static str, &'static str);
 
-// What is answered of a marked text of this file.
-fn answered_of_two(
-    rt: &(impl Abort + AllocGlobal),
-    first: (&str, &str),
-    second: (&str, &str),
-    file: &str,
-    marked: &str,
-) -> Result<String, Fail> {
-    assert!(rt; is_name(first.0) && is_name(second.0) && is_name(file));
-    assert!(rt; first.1.len() <= MAX_SOURCE_BYTES);
-    assert!(rt; second.1.len() <= MAX_SOURCE_BYTES);
-    let (text, offset) = unmarked(rt.alloc(), marked)?;
-    let answer = answer_of_two(rt.alloc(), first, second, file, offset)?;
-    Ok(shown(rt.alloc(), text.as_str(), &answer)?)
+static EACH_OF_TWO: [AskedOfTwo; 3] = [
+    (
+        [("A.scala", ONE_VAL), ("B.scala", "object B { val x = 2 }")],
+        "B.scala",
+        "▮object B { val x = 2 }",
+        "ObjectDef, -, object B, ▮object B { val x = 2 }▮",
+    ),
+    (
+        [("A.scala", ONE_VAL), ("B.scala", "")],
+        "A.scala",
+        "object A { val x = ▮1 }",
+        "Literal, Int, -, object A { val x = ▮1▮ }",
+    ),
+    (
+        [("B.scala", LATER_VAL), ("A.scala", ONE_VAL)],
+        "C.scala",
+        "▮",
+        "no unit",
+    ),
+];
+
+static LATER_TEXTS: [AskedOfTwo; 2] = [
+    (
+        [("A.scala", ONE_VAL), ("A.scala", "object C { val z = 10 }")],
+        "A.scala",
+        "object C { val z = 10 }▮",
+        "ObjectDef, -, object C, ▮object C { val z = 10 }▮",
+    ),
+    (
+        [("A.scala", LATER_VAL), ("A.scala", ONE_VAL)],
+        "A.scala",
+        "object A { val x = ▮1 }",
+        "Literal, Int, -, object A { val x = ▮1▮ }",
+    ),
+];
+
+static ONE_UNREAD: [AskedOfTwo; 2] = [
+    (
+        [("A.scala", ONE_VAL), ("B.scala", "object A { val y = 2 }")],
+        "A.scala",
+        "object A { val x = ▮1 }",
+        "unread",
+    ),
+    (
+        [("A.scala", ONE_VAL), ("B.scala", LATER_VAL)],
+        "A.scala",
+        "object A { val x = ▮1 }",
+        "unread",
+    ),
+];
+
+fn agree_of_two(rt: &(impl Abort + AllocGlobal), rows: &[AskedOfTwo]) -> Result<(), Fail> {
+    for (files, file, marked, found) in rows {
+        let (text, offset) = unmarked(rt.alloc(), marked)?;
+        let shown = answered(rt.alloc(), files, file, text.as_str(), offset)?;
+        assert_eq!(rt; shown.as_str(), *found, "{marked}");
+    }
+    Ok(())
 }
 
 #[test]
 fn an_ask_sees_each_of_two_files(rt: HostRuntime) -> Result<(), Fail> {
-    let (a, b) = (("A.scala", ONE_VAL), ("B.scala", "object B { val x = 2 }"));
-    assert_eq!(rt;
-        answered_of_two(&rt, a, b, "B.scala", "▮object B { val x = 2 }")?.as_str(),
-        "ObjectDef, -, object B, ▮object B { val x = 2 }▮"
-    );
-    let empty = ("B.scala", "");
-    assert_eq!(rt;
-        answered_of_two(&rt, a, empty, "A.scala", "object A { val x = ▮1 }")?.as_str(),
-        "Literal, Int, -, object A { val x = ▮1▮ }"
-    );
-    let unread = ("B.scala", LATER_VAL);
-    assert_eq!(rt;
-        answered_of_two(&rt, unread, a, "C.scala", "▮")?.as_str(),
-        "no unit"
-    );
-    Ok(())
+    agree_of_two(&rt, &EACH_OF_TWO)
 }
 
 #[test]
 fn a_later_text_replaces_an_earlier_one(rt: HostRuntime) -> Result<(), Fail> {
-    let (a, c) = (("A.scala", ONE_VAL), ("A.scala", "object C { val z = 10 }"));
-    assert_eq!(rt;
-        answered_of_two(&rt, a, c, "A.scala", "object C { val z = 10 }▮")?.as_str(),
-        "ObjectDef, -, object C, ▮object C { val z = 10 }▮"
-    );
-    let unread = ("A.scala", LATER_VAL);
-    assert_eq!(rt;
-        answered_of_two(&rt, unread, a, "A.scala", "object A { val x = ▮1 }")?.as_str(),
-        "Literal, Int, -, object A { val x = ▮1▮ }"
-    );
-    Ok(())
+    agree_of_two(&rt, &LATER_TEXTS)
 }
 
 #[test]
 fn one_file_that_is_not_read_leaves_all_unread(rt: HostRuntime) -> Result<(), Fail> {
-    let a = ("A.scala", ONE_VAL);
-    let same_name = ("B.scala", "object A { val y = 2 }");
-    let later = ("B.scala", LATER_VAL);
-    for other in [same_name, later] {
-        let shown = answered_of_two(&rt, a, other, "A.scala", "object A { val x = ▮1 }")?;
-        assert_eq!(rt; shown.as_str(), "unread");
-    }
-    Ok(())
+    agree_of_two(&rt, &ONE_UNREAD)
 }

@@ -2,7 +2,7 @@ use Rattle.std.proofs.Common.{◌≡◌, ◌==◌, ℕ, List, rules, sym, ap, �
 use Rattle.std.specs.List.{list_any}
 use Rattle.compiler_loop.specs.CoreState.{state_of}
 use Rattle.loop_checks.proofs.OpenAsks.{is_open_in-tickets}
-use Rattle.loop_checks.proofs.plays.Player.is_open.Goals as goal
+use Rattle.loop_checks.proofs.player.Player.is_open.Goals as goal
 
 pub returns : goal.returns
 returns c =

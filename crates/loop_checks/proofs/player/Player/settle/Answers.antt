@@ -3,7 +3,7 @@ use Rattle.ask_history.specs.Engine.{EngineState}
 use Rattle.ask_history.specs.declared.engine.Effect.TheVariants.{Dropped}
 use Rattle.compiler_loop.specs.CoreState.{state_of}
 use Rattle.loop_checks.proofs.OpenAsks.{settled_open, tickets_left}
-use Rattle.loop_checks.proofs.plays.Player.settle.Goals as goal
+use Rattle.loop_checks.proofs.player.Player.settle.Goals as goal
 
 pub invariant_of-self : goal.invariant_of-self
 invariant_of-self c =
