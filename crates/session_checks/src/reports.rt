@@ -3,6 +3,7 @@ ghost use Rattle.std.specs.Prelude.{◌≡◌, [], ◌∷◌, ◌++◌, OnOk, On
 use pc_terms::{Failed, NoMemory, Problem, Row, Text};
 use report_hub::{Hub, Reporter};
 use std::alloc::Global;
+use std::process::Abort;
 use std::sync::Arc;
 use std::sync::atomic::{AtomicU64, Ordering};
 use std::test::Fail;
@@ -21,7 +22,8 @@ struct Listener {
 
 impl Listener {
     fn keep(&mut self, file: &Text, problems: &Row<Problem>) -> Result<(), NoMemory>
-        ensures ok { OnOk result ((self.new.told ≡ self.old.told ++ (file.now, problems.now) ∷ []) × (self.new.faults ≡ self.old.faults)) }
+        ensures ok { OnOk result ((self.new.told ≡ self.old.told ++ (file.now, problems.now) ∷ [])
+            × (self.new.faults ≡ self.old.faults)) }
         ensures err { OnErr result ((self.new.told ≡ self.old.told) × (self.new.faults ≡ self.old.faults)) }
     {
         if !problems.is_empty() || self.calls == self.fails_at {
@@ -100,20 +102,25 @@ fn attached(
     Ok(hub.attach(listener).ok())
 }
 
-// The first of two reporters fails at the second of three checks: it is told two, and the other one all three.
-// It is given back once, and the other one is dropped with the hub.
-#[test]
-fn a_reporter_fails_once(rt: HostRuntime) -> Result<(), Fail> {
-    let alloc = rt.alloc();
-    let log = Arc::new(alloc, AtomicU64::new(0))?;
-    let mut hub = Hub::new(alloc)?;
-    assert_eq!(rt; attached(alloc, &mut hub, 1, 2, &log)?, Some(0));
-    assert_eq!(rt; attached(alloc, &mut hub, 2, 9, &log)?, Some(1));
+fn attach_two(
+    alloc: Global,
+    hub: &mut Hub,
+    log: &Arc<AtomicU64>,
+) -> Result<[Option<usize>; 2], NoMemory> {
+    let first = attached(alloc, hub, 1, 2, log)?;
+    let second = attached(alloc, hub, 2, 9, log)?;
+    Ok([first, second])
+}
 
-    let file = Text::new(alloc, "A.scala")?;
-    let problems = Row::new(alloc);
+fn tell_and_drop(
+    rt: &impl Abort,
+    mut hub: Hub,
+    log: &AtomicU64,
+    file: &Text,
+    problems: &Row<Problem>,
+) {
     for _ in 0..3 {
-        hub.tell(&file, &problems);
+        hub.tell(file, problems);
     }
     assert_eq!(rt; log.load(Ordering::SeqCst), 12_212);
 
@@ -121,11 +128,25 @@ fn a_reporter_fails_once(rt: HostRuntime) -> Result<(), Fail> {
     assert!(rt; given.is_some());
     assert!(rt; hub.detach(0).is_none());
     assert!(rt; hub.detach(2).is_none());
-    hub.tell(&file, &problems);
+    hub.tell(file, problems);
     assert_eq!(rt; log.load(Ordering::SeqCst), 122_122);
     drop(hub);
     assert_eq!(rt; log.load(Ordering::SeqCst), 1_221_222);
     drop(given);
     assert_eq!(rt; log.load(Ordering::SeqCst), 12_212_221);
+}
+
+// The first of two reporters fails at the second of three checks: it is told two, and the other one all three.
+// It is given back once, and the other one is dropped with the hub.
+#[test]
+fn a_reporter_fails_once(rt: HostRuntime) -> Result<(), Fail> {
+    let alloc = rt.alloc();
+    let file = Text::new(alloc, "A.scala")?;
+    let problems = Row::new(alloc);
+    let log = Arc::new(alloc, AtomicU64::new(0))?;
+    let mut hub = Hub::new(alloc)?;
+    let numbers = attach_two(alloc, &mut hub, &log)?;
+    assert_eq!(rt; numbers, [Some(0), Some(1)]);
+    tell_and_drop(&rt, hub, &log, &file, &problems);
     Ok(())
 }
