@@ -1,4 +1,5 @@
-//! The tests of `parse_parts` and `parse_patterns`. They stand in a crate of their own, since a crate with tests is proved twice.
+//! The tests of `parse_parts` and `parse_patterns`. They stand in a crate of their own, since a crate with tests is
+//! proved twice.
 #![tactic(auto)]
 
 #[cfg(test)]

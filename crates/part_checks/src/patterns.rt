@@ -1,11 +1,7 @@
 //! What `parse_pattern` reads of texts. The trees were worked out from the grammar of the language.
 
-use crate::rows::{Row, agree, cut_at_marks, tokens_of};
-use parse_parts::Part;
-use parse_patterns::parse_pattern;
-use pc_terms::MAX_SOURCE_BYTES;
-use std::alloc::AllocError;
-use std::process::Abort;
+use crate::rows::Kind::Pattern;
+use crate::rows::{Nest, Row, ends_at_400_levels, is_read, read_all};
 use std::test::Fail;
 
 // variables, `_`, literals and paths (SLS 8.1.1, 8.1.4, 8.1.5)
@@ -114,7 +110,8 @@ static INFIX: [Row; 15] = [
     ),
     (
         "▮a + b & c +: d▮",
-        "0 CtorPat &@6-7 0-14 [1 CtorPat +@2-3 0-5 [2 Bind a 0-1, 3 Bind b 4-5], 4 CtorPat +:@10-12 8-14 [5 Bind c 8-9, 6 Bind d 13-14]]",
+        "0 CtorPat &@6-7 0-14 [1 CtorPat +@2-3 0-5 [2 Bind a 0-1, 3 Bind b 4-5], \
+             4 CtorPat +:@10-12 8-14 [5 Bind c 8-9, 6 Bind d 13-14]]",
     ),
     (
         "▮a ::\nb▮",
@@ -175,7 +172,8 @@ static TYPED: [Row; 17] = [
     ),
     (
         "▮x: A[B => C]▮ =>",
-        "0 TypedPat x@0-1 0-12 [1 AppliedType A@3-4 3-12 [2 TypeIdent A 3-4, 3 FunType 5-11 [4 TypeIdent B 5-6, 5 TypeIdent C 10-11]]]",
+        "0 TypedPat x@0-1 0-12 [1 AppliedType A@3-4 3-12 [2 TypeIdent A 3-4, \
+             3 FunType 5-11 [4 TypeIdent B 5-6, 5 TypeIdent C 10-11]]]",
     ),
     (
         "▮x: (A => B)▮ =>",
@@ -232,88 +230,47 @@ static BAD_TOKENS: [Row; 18] = [
     ("▮(a: A▮ :: B)", "not here"),
 ];
 
-fn read_all(rt: &(impl Abort + AllocGlobal), rows: &[Row]) -> Result<(), Fail> {
-    for row in rows {
-        let text = cut_at_marks(rt, row.0)?;
-        let part = parse_pattern(rt.alloc(), &text.tokens, text.at)?;
-        agree(rt, row, text.behind, &part)?;
-    }
-    Ok(())
-}
-
 #[test]
 fn patterns_of_one_name_or_literal(rt: HostRuntime) -> Result<(), Fail> {
-    read_all(&rt, &SINGLE)
+    read_all(&rt, Pattern, &SINGLE)
 }
 
 #[test]
 fn patterns_with_brackets(rt: HostRuntime) -> Result<(), Fail> {
-    read_all(&rt, &BRACKETS)
+    read_all(&rt, Pattern, &BRACKETS)
 }
 
 #[test]
 fn infix_patterns(rt: HostRuntime) -> Result<(), Fail> {
-    read_all(&rt, &INFIX)
+    read_all(&rt, Pattern, &INFIX)
 }
 
 #[test]
 fn bound_patterns_and_alternatives(rt: HostRuntime) -> Result<(), Fail> {
-    read_all(&rt, &BOUND)
+    read_all(&rt, Pattern, &BOUND)
 }
 
 #[test]
 fn typed_patterns(rt: HostRuntime) -> Result<(), Fail> {
-    read_all(&rt, &TYPED)
+    read_all(&rt, Pattern, &TYPED)
 }
 
 #[test]
 fn where_no_pattern_begins_the_first_bad_token_is_named(rt: HostRuntime) -> Result<(), Fail> {
-    read_all(&rt, &BAD_TOKENS)
+    read_all(&rt, Pattern, &BAD_TOKENS)
 }
-
-/// What stands so many times before `A`, and behind it.
-type Nest = (&'static str, &'static str);
 
 // each makes a pattern one level higher
 static NESTS: [Nest; 4] = [("A(", ")"), ("(a,", ")"), ("a::", ""), ("a.", "")];
 
-fn push_times(text: &mut String, piece: &str, times: u32) -> Result<(), AllocError> {
-    for _ in 0..times {
-        text.push_str(piece)?;
-    }
-    Ok(())
-}
-
-// Whether a pattern with so many of these around it is read; else it is too high.
-fn is_read(rt: &(impl Abort + AllocGlobal), nest: Nest, times: u32) -> Result<bool, Fail> {
-    let mut text = String::new(rt.alloc());
-    push_times(&mut text, nest.0, times)?;
-    text.push_str("A")?;
-    push_times(&mut text, nest.1, times)?;
-    assert!(rt; text.len() <= MAX_SOURCE_BYTES);
-    let tokens = tokens_of(rt.alloc(), text.as_str())?;
-    let (end, read) = match parse_pattern(rt.alloc(), &tokens, 0)? {
-        Part::Read(_, end) => (end, true),
-        Part::TooHigh(end) => (end, false),
-        Part::NotHere(bad) => panic!(rt; "{times} of {nest:?}: no pattern at token {bad}"),
-    };
-    assert_eq!(rt; end as usize, tokens.tokens.len(), "{times} of {nest:?}");
-    Ok(read)
-}
-
 #[test]
 fn a_pattern_of_400_levels_is_read_and_one_of_401_is_too_high(rt: HostRuntime) -> Result<(), Fail> {
-    for nest in &NESTS {
-        assert!(rt; is_read(&rt, *nest, 399)?, "399 of {nest:?}");
-        assert!(rt; !is_read(&rt, *nest, 400)?, "400 of {nest:?}");
-        assert!(rt; !is_read(&rt, *nest, 9000)?, "9000 of {nest:?}");
-    }
-    Ok(())
+    ends_at_400_levels(&rt, Pattern, &NESTS)
 }
 
 #[test]
 fn parentheses_and_strokes_make_no_pattern_higher(rt: HostRuntime) -> Result<(), Fail> {
-    assert!(rt; is_read(&rt, ("(", ")"), 50000)?);
-    assert!(rt; is_read(&rt, ("a|", ""), 50000)?);
+    assert!(rt; is_read(&rt, Pattern, ("(", ")"), 50000)?);
+    assert!(rt; is_read(&rt, Pattern, ("a|", ""), 50000)?);
     Ok(())
 }

@@ -4,7 +4,8 @@ ghost use Rattle.pc_terms.specs.Bytes.{max_source_bytes};
 ghost use Rattle.scan_tokens.specs.Scanned.{scanned};
 ghost use Rattle.std.specs.Prelude.{◌≡◌, ◌≤◌, length, IfOk};
 
-use parse_parts::Part;
+use parse_parts::{Part, parse_type};
+use parse_patterns::parse_pattern;
 use pc_terms::{MAX_SOURCE_BYTES, NoMemory};
 use positioned_trees::{Detail, Tree};
 use scan_tokens::{Tokens, scan};
@@ -17,12 +18,12 @@ use std::test::Fail;
 /// where that is not the tree's, its span, and its kids between brackets.
 pub type Row = (&'static str, &'static str);
 
-/// The tokens of a text, and the numbers of those behind the two marks.
+// The tokens of a text, and the numbers of those behind the two marks.
 #[derive(Drop)]
-pub struct Marked {
-    pub tokens: Tokens,
-    pub at: u32,
-    pub behind: u32,
+struct Marked {
+    tokens: Tokens,
+    at: u32,
+    behind: u32,
 }
 
 fn tokens_before(tokens: &Tokens, offset: usize) -> u32 {
@@ -36,7 +37,7 @@ fn tokens_before(tokens: &Tokens, offset: usize) -> u32 {
 }
 
 #[tactic(auto, unfolding(scan_tokens::specs::Scanned::scanned))]
-pub fn tokens_of(alloc: Global, text: &str) -> Result<Tokens, NoMemory>
+fn tokens_of(alloc: Global, text: &str) -> Result<Tokens, NoMemory>
     requires { length text.now ≤ max_source_bytes }
     ensures scanned { IfOk result (λ tokens. tokens ≡ scanned tokens.text) }
     ensures short { IfOk result (λ tokens. length tokens.text ≤ max_source_bytes) }
@@ -44,7 +45,7 @@ pub fn tokens_of(alloc: Global, text: &str) -> Result<Tokens, NoMemory>
     scan(alloc, text)
 }
 
-pub fn cut_at_marks(rt: &(impl Abort + AllocGlobal), text: &str) -> Result<Marked, Fail>
+fn cut_at_marks(rt: &(impl Abort + AllocGlobal), text: &str) -> Result<Marked, Fail>
     ensures scanned { IfOk result (λ m. m.tokens ≡ scanned m.tokens.text) }
     ensures short { IfOk result (λ m. length m.tokens.text ≤ max_source_bytes) }
     ensures within { IfOk result (λ m. m.at ≤ length m.tokens.tokens) }
@@ -109,13 +110,8 @@ fn shown(alloc: Global, part: &Part) -> Result<String, AllocError> {
     Ok(shown)
 }
 
-/// Whether a part is the one of the row, and ends at the second mark.
-pub fn agree(
-    rt: &(impl Abort + AllocGlobal),
-    row: &Row,
-    behind: u32,
-    part: &Part,
-) -> Result<(), Fail> {
+// Whether a part is the one of the row, and ends at the second mark.
+fn agree(rt: &(impl Abort + AllocGlobal), row: &Row, behind: u32, part: &Part) -> Result<(), Fail> {
     let (text, expected) = *row;
     assert_eq!(rt;
         shown(rt.alloc(), part)?.as_str(),
@@ -126,5 +122,79 @@ pub fn agree(
         Part::Read(_, end) | Part::NotHere(end) | Part::TooHigh(end) => *end,
     };
     assert_eq!(rt; end, behind, "the token at the second mark of {text:?}");
+    Ok(())
+}
+
+/// What the parts of a module's rows are.
+#[derive(Clone, Copy, Debug)]
+pub enum Kind {
+    Type,
+    Pattern,
+}
+
+fn parse(alloc: Global, kind: Kind, tokens: &Tokens, at: u32) -> Result<Part, NoMemory>
+    requires short { length tokens.now.text ≤ max_source_bytes }
+    requires scanned { tokens.now ≡ scanned tokens.now.text }
+    requires within { at ≤ length tokens.now.tokens }
+{
+    match kind {
+        Kind::Type => parse_type(alloc, tokens, at),
+        Kind::Pattern => parse_pattern(alloc, tokens, at),
+    }
+}
+
+/// Reads the part of each row.
+pub fn read_all(rt: &(impl Abort + AllocGlobal), kind: Kind, rows: &[Row]) -> Result<(), Fail> {
+    for row in rows {
+        let text = cut_at_marks(rt, row.0)?;
+        let part = parse(rt.alloc(), kind, &text.tokens, text.at)?;
+        agree(rt, row, text.behind, &part)?;
+    }
+    Ok(())
+}
+
+/// What stands so many times before `A`, and behind it.
+pub type Nest = (&'static str, &'static str);
+
+fn push_times(text: &mut String, piece: &str, times: u32) -> Result<(), AllocError> {
+    for _ in 0..times {
+        text.push_str(piece)?;
+    }
+    Ok(())
+}
+
+/// Whether a part with so many of these around it is read; else it is too high.
+pub fn is_read(
+    rt: &(impl Abort + AllocGlobal),
+    kind: Kind,
+    nest: Nest,
+    times: u32,
+) -> Result<bool, Fail> {
+    let mut text = String::new(rt.alloc());
+    push_times(&mut text, nest.0, times)?;
+    text.push_str("A")?;
+    push_times(&mut text, nest.1, times)?;
+    assert!(rt; text.len() <= MAX_SOURCE_BYTES);
+    let tokens = tokens_of(rt.alloc(), text.as_str())?;
+    let (end, read) = match parse(rt.alloc(), kind, &tokens, 0)? {
+        Part::Read(_, end) => (end, true),
+        Part::TooHigh(end) => (end, false),
+        Part::NotHere(bad) => panic!(rt; "{times} of {nest:?}: no part at token {bad}"),
+    };
+    assert_eq!(rt; end as usize, tokens.tokens.len(), "{times} of {nest:?}");
+    Ok(read)
+}
+
+/// Each of these makes a part one level higher, so that 399 around a part of one level are the most that is read.
+pub fn ends_at_400_levels(
+    rt: &(impl Abort + AllocGlobal),
+    kind: Kind,
+    nests: &[Nest],
+) -> Result<(), Fail> {
+    for nest in nests {
+        assert!(rt; is_read(rt, kind, *nest, 399)?, "399 of {nest:?}");
+        assert!(rt; !is_read(rt, kind, *nest, 400)?, "400 of {nest:?}");
+        assert!(rt; !is_read(rt, kind, *nest, 9000)?, "9000 of {nest:?}");
+    }
     Ok(())
 }

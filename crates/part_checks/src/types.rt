@@ -1,10 +1,7 @@
 //! What `parse_type` reads of texts. The trees were worked out from the grammar of the language.
 
-use crate::rows::{Row, agree, cut_at_marks, tokens_of};
-use parse_parts::{Part, parse_type};
-use pc_terms::MAX_SOURCE_BYTES;
-use std::alloc::AllocError;
-use std::process::Abort;
+use crate::rows::Kind::Type;
+use crate::rows::{Nest, Row, ends_at_400_levels, is_read, read_all};
 use std::test::Fail;
 
 // a name, and a name behind a path (SLS 3.1, 3.2.1, 3.2.3)
@@ -200,52 +197,40 @@ static BAD_TOKENS: [Row; 16] = [
     ("▮((A, B, C, D)▮)", "not here"),
 ];
 
-fn read_all(rt: &(impl Abort + AllocGlobal), rows: &[Row]) -> Result<(), Fail> {
-    for row in rows {
-        let text = cut_at_marks(rt, row.0)?;
-        let part = parse_type(rt.alloc(), &text.tokens, text.at)?;
-        agree(rt, row, text.behind, &part)?;
-    }
-    Ok(())
-}
-
 #[test]
 fn names_and_paths(rt: HostRuntime) -> Result<(), Fail> {
-    read_all(&rt, &NAMES)
+    read_all(&rt, Type, &NAMES)
 }
 
 #[test]
 fn types_of_paths(rt: HostRuntime) -> Result<(), Fail> {
-    read_all(&rt, &SINGLETONS)
+    read_all(&rt, Type, &SINGLETONS)
 }
 
 #[test]
 fn types_with_arguments(rt: HostRuntime) -> Result<(), Fail> {
-    read_all(&rt, &ARGUMENTS)
+    read_all(&rt, Type, &ARGUMENTS)
 }
 
 #[test]
 fn parentheses_and_tuples(rt: HostRuntime) -> Result<(), Fail> {
-    read_all(&rt, &PARENTHESES)
+    read_all(&rt, Type, &PARENTHESES)
 }
 
 #[test]
 fn function_types(rt: HostRuntime) -> Result<(), Fail> {
-    read_all(&rt, &FUNCTIONS)
+    read_all(&rt, Type, &FUNCTIONS)
 }
 
 #[test]
 fn a_type_ends_before_what_may_follow_it(rt: HostRuntime) -> Result<(), Fail> {
-    read_all(&rt, &ENDS)
+    read_all(&rt, Type, &ENDS)
 }
 
 #[test]
 fn where_no_type_begins_the_first_bad_token_is_named(rt: HostRuntime) -> Result<(), Fail> {
-    read_all(&rt, &BAD_TOKENS)
+    read_all(&rt, Type, &BAD_TOKENS)
 }
-
-/// What stands so many times before `A`, and behind it.
-type Nest = (&'static str, &'static str);
 
 // each makes a type one level higher
 static NESTS: [Nest; 5] = [
@@ -256,42 +241,13 @@ static NESTS: [Nest; 5] = [
     ("a.", ""),
 ];
 
-fn push_times(text: &mut String, piece: &str, times: u32) -> Result<(), AllocError> {
-    for _ in 0..times {
-        text.push_str(piece)?;
-    }
-    Ok(())
-}
-
-// Whether a type with so many of these around it is read; else it is too high.
-fn is_read(rt: &(impl Abort + AllocGlobal), nest: Nest, times: u32) -> Result<bool, Fail> {
-    let mut text = String::new(rt.alloc());
-    push_times(&mut text, nest.0, times)?;
-    text.push_str("A")?;
-    push_times(&mut text, nest.1, times)?;
-    assert!(rt; text.len() <= MAX_SOURCE_BYTES);
-    let tokens = tokens_of(rt.alloc(), text.as_str())?;
-    let (end, read) = match parse_type(rt.alloc(), &tokens, 0)? {
-        Part::Read(_, end) => (end, true),
-        Part::TooHigh(end) => (end, false),
-        Part::NotHere(bad) => panic!(rt; "{times} of {nest:?}: no type at token {bad}"),
-    };
-    assert_eq!(rt; end as usize, tokens.tokens.len(), "{times} of {nest:?}");
-    Ok(read)
-}
-
 #[test]
 fn a_type_of_400_levels_is_read_and_one_of_401_is_too_high(rt: HostRuntime) -> Result<(), Fail> {
-    for nest in &NESTS {
-        assert!(rt; is_read(&rt, *nest, 399)?, "399 of {nest:?}");
-        assert!(rt; !is_read(&rt, *nest, 400)?, "400 of {nest:?}");
-        assert!(rt; !is_read(&rt, *nest, 9000)?, "9000 of {nest:?}");
-    }
-    Ok(())
+    ends_at_400_levels(&rt, Type, &NESTS)
 }
 
 #[test]
 fn parentheses_make_no_type_higher(rt: HostRuntime) -> Result<(), Fail> {
-    assert!(rt; is_read(&rt, ("(", ")"), 50000)?);
+    assert!(rt; is_read(&rt, Type, ("(", ")"), 50000)?);
     Ok(())
 }
