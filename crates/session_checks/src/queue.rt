@@ -227,14 +227,24 @@ fn load_and_ask(alloc: Global, queue: &mut Queue) -> Result<(), NoMemory>
     Ok(())
 }
 
-fn settle_ask(queue: &mut Queue) -> (Effect, Answer)
+fn word_of(answer: Answer) -> &'static str {
+    match answer {
+        Answer::Cancelled => "cancelled",
+        Answer::NoTree => "notree",
+        Answer::NoMemory => "nomemory",
+        _ => "another answer",
+    }
+}
+
+fn settle_ask(queue: &mut Queue) -> (Effect, &'static str)
     requires settled { is_settled queue.old.journal 0 ≡ true }
     requires unsettled { is_settled queue.old.journal 1 ≡ false }
     requires count { accepted queue.old.journal ≡ 2 }
     requires legal { IsTrue (is_legal queue.old.journal) }
     ensures count { accepted queue.new.journal ≡ 2 }
 {
-    queue.settle(1, Settling::Value(Answer::NoTree))
+    let (effect, answer) = queue.settle(1, Settling::Value(Answer::NoTree));
+    (effect, word_of(answer))
 }
 
 fn cancel_before(rt: &(impl Abort + AllocGlobal), queue: &mut Queue) -> Result<(), Fail>
@@ -243,9 +253,7 @@ fn cancel_before(rt: &(impl Abort + AllocGlobal), queue: &mut Queue) -> Result<(
     load_and_ask(rt.alloc(), queue)?;
     assert_eq!(rt; queue.cancel(1), CancelSeen::Marked(3));
     assert!(rt; queue.is_cancelled(1));
-    let (effect, answer) = settle_ask(queue);
-    assert_eq!(rt; effect, Effect::Dropped);
-    assert!(rt; matches!(answer, Answer::Cancelled));
+    assert_eq!(rt; settle_ask(queue), (Effect::Dropped, "cancelled"));
     Ok(())
 }
 
@@ -253,9 +261,7 @@ fn cancel_after(rt: &(impl Abort + AllocGlobal), queue: &mut Queue) -> Result<()
     requires fresh { queue.old.journal ≡ [] }
 {
     load_and_ask(rt.alloc(), queue)?;
-    let (effect, answer) = settle_ask(queue);
-    assert_eq!(rt; effect, Effect::Dropped);
-    assert!(rt; matches!(answer, Answer::NoTree));
+    assert_eq!(rt; settle_ask(queue), (Effect::Dropped, "notree"));
     assert_eq!(rt; queue.cancel(1), CancelSeen::Late(3));
     Ok(())
 }
@@ -281,8 +287,7 @@ fn reload_without_memory(rt: &(impl Abort + AllocGlobal), queue: &mut Queue) -> 
     let call = reload(rt.alloc(), "A.scala", A)?;
     let ticket = post(queue, 1, call)?;
     let (effect, answer) = queue.settle(ticket, Settling::NoMemory);
-    assert_eq!(rt; effect, Effect::Dropped);
-    assert!(rt; matches!(answer, Answer::NoMemory));
+    assert_eq!(rt; (effect, word_of(answer)), (Effect::Dropped, "nomemory"));
     Ok(())
 }
 
