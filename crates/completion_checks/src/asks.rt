@@ -19,7 +19,8 @@ pub enum Found {
 #[tactic(auto, using(crate::proofs::Nodes::empty_right))]
 pub fn new_memo(graph: &Graph) -> Result<Memo, NoMemory>
     ensures unlocked { IfOk result (λ memo. locked memo ≡ []) }
-    ensures right { IfOk result (λ memo. IsOf (nodes (length graph.now.needs.items)) (typing graph.now.needs.items) memo) }
+    ensures right { IfOk result
+        (λ memo. IsOf (nodes (length graph.now.needs.items)) (typing graph.now.needs.items) memo) }
 {
     Memo::new(graph.alloc)
 }

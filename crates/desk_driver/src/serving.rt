@@ -9,7 +9,7 @@ ghost use Rattle.ask_desk.specs.Driving.{IsLater, Looks, Finds, Settles, Checks}
 ghost use Rattle.desk_driver.specs.Serves.{Serves};
 
 use ask_desk::{CheckNoted, Desk, EnginePass, News};
-use ask_history::{Answer, Call, Effect};
+use ask_history::{Call, Effect};
 use counting_word::Room;
 use pc_terms::{NoMemory, Problem, Row, Text};
 use std::alloc::Global;

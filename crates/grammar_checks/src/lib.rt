@@ -1,5 +1,5 @@
-//! Checks of the grammar: the trees of short texts are those that the rules of the language give. The functions do nothing; their
-//! clauses are the checks.
+//! Checks of the grammar: the trees of short texts are those that the rules of the language give. The functions do
+//! nothing; their clauses are the checks.
 #![tactic(auto)]
 
 ghost use Rattle.std.specs.Prelude.{◌≡◌};

@@ -38,6 +38,7 @@ use Rattle.parse_patterns.specs.declared.states.State.{State}
 use Rattle.parse_patterns.specs.declared.symbols.Symbol.{Symbol}
 use Rattle.parse_patterns.specs.declared.symbols.Symbol.TheVariants as symbol
 use Rattle.parse_patterns.specs.Names.{id_of}
+use Rattle.parse_patterns.specs.Operators.{over}
 use Rattle.parse_patterns.specs.Reading.{stepped}
 use Rattle.parse_patterns.specs.Steps as spec
 use Rattle.parse_patterns.specs.Steps.{admits, advanced, is_no, type_symbol_of}
@@ -95,7 +96,7 @@ listed-trees : (done : List derived.Done) (d : PatList) → pat_list_trees (list
 listed-trees [] d = refl
 listed-trees (e ∷ done) d = listed-trees done (MorePats e.pat e.place d) ∙ sym (append_assoc (done_trees done) (pat_tree e.pat ∷ []) (pat_list_trees d))
 
-round-span : (o c : Place) (xs : List Lexeme) → span_of (open_round o ∷ (xs ++ close_round c ∷ [])) ≡ record { start = o.span.start; end = c.span.end }
+pub round-span : (o c : Place) (xs : List Lexeme) → span_of (open_round o ∷ (xs ++ close_round c ∷ [])) ≡ record { start = o.span.start; end = c.span.end }
 round-span o c xs = ap (λ n. record { start = o.span.start; end = n }) (end-behind o.span.end xs (close_round c) [])
 
 call-span : (path : QualId) (c : Place) (xs : List Lexeme) → span_of (qual_id_tokens path ++ (xs ++ close_round c ∷ [])) ≡ record { start = path.first.place.span.start; end = c.span.end }
@@ -237,7 +238,7 @@ behind-same x b os s (Some d) es fs one e = go (is_no x.place.before) (is_bar (i
     earlier = earlier_shown es;
     current = current.InInfix (record {
       binder = binder_shown b;
-      operations = pushed (operations_shown os) p (id_of x);
+      operations = pushed over (operations_shown os) p (id_of x);
       spot = spot.Begin;
     });
   }) (operand-shown s d e)
@@ -482,11 +483,11 @@ some-typed s p None = refl
 some-typed s p (Some type) = refl
 
 -- one token more of a type
-abbrev type_met : Bool → TypeState → Option TypeState
+abbrev pub type_met : Bool → TypeState → Option TypeState
 type_met true t = Some t
 type_met false t = None
 
-type-same : (t : types.State) (x : Lexeme)
+pub type-same : (t : types.State) (x : Lexeme)
     → type_met (spec.type_goes_on (type_shown.shown t) (type_symbol_of x)) (type_spec.advanced (type_shown.shown t) (type_symbol_of x) x.place.span x.word) ≡ option_map type_shown.shown (simple_step t x)
 type-same t x =
     ap (λ b. type_met (not b && type_spec.admits (type_shown.shown t) (type_symbol_of x)) next) (leaves-same (type_symbol_of x) x t) ∙ go (leaves (type_seen.seen x) t.frames t.spot)

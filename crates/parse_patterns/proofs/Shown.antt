@@ -214,7 +214,7 @@ typed-piece name type tokens e s f =
     ∙ ap (λ n. record { tall = node kind.TypedPat name.text name.span n (kept_all (simple_tree type ∷ [])); span = n }) (sym (span-is tokens name.span.start e s f))
     ∙ ap (λ t. record { tall = t; span = span_of tokens }) (node-kept kind.TypedPat name.text name.span (span_of tokens) (simple_tree type ∷ []))
 
-simple-begins : (type : SimpleType) → Some_begins (simple_tokens type)
+pub simple-begins : (type : SimpleType) → Some_begins (simple_tokens type)
 simple-begins type = record { first = (type_shown.simple-begins type).0; begins = record { rest = (type_shown.simple-begins type).1.rest; is = (type_shown.simple-begins type).1.is } }
 
 typed-shown : (s : derived.Subject) (point : Place) (t : types.State) (fs : List types.Frame) (hs : List types.Head) (type : SimpleType) → simple_in fs hs t.spot ≡ Some type

@@ -8,8 +8,8 @@ use std::alloc::Global;
 use std::sync::Arc;
 use std::sync::atomic::{AtomicU64, Ordering};
 
-/// It adds a digit to the log for each entry: its own for a file whose name begins with `A`, and the next one for another
-/// file. It takes no problems.
+/// It adds a digit to the log for each entry: its own for a file whose name begins with `A`, and the next one for
+/// another file. It takes no problems.
 pub struct Listener {
     pub digit: u64,
     pub told: Row<(Text, Row<Problem>)>,
@@ -20,7 +20,8 @@ pub struct Listener {
 
 impl Listener {
     fn keep(&mut self, file: &Text, problems: &Row<Problem>) -> Result<(), NoMemory>
-        ensures ok { OnOk result ((self.new.told ≡ self.old.told ++ (file.now, problems.now) ∷ []) × (self.new.faults ≡ self.old.faults)) }
+        ensures ok { OnOk result
+            ((self.new.told ≡ self.old.told ++ (file.now, problems.now) ∷ []) × (self.new.faults ≡ self.old.faults)) }
         ensures err { OnErr result ((self.new.told ≡ self.old.told) × (self.new.faults ≡ self.old.faults)) }
     {
         if !problems.is_empty() {

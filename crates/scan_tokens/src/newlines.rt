@@ -7,7 +7,7 @@ ghost use Rattle.scan_tokens.specs.Order.{AreInOrder};
 ghost use Rattle.scan_tokens.specs.declared.tokens.Newline.TheVariants.{No};
 
 use crate::regions::Regions;
-use crate::roles::{Role, can_begin, can_end, is_template, role_at};
+use crate::roles::{can_begin, can_end, is_template, role_at};
 use crate::tokens::{Newline, Token};
 use pc_terms::{NoMemory, Row};
 use std::alloc::Global;
