@@ -269,23 +269,28 @@ const ONE_VAL: &str = "object A { val x = 1 }";
 const LATER_VAL: &str = "object B { val a = b; val b = 1 }";
 
 /// Two files, the file of an ask, its text with the offset, and what is answered.
-type AskedOfTwo = ([File<'static>; 2], &'static str, &'static str, &'static str);
+type AskedOfTwo = (
+    &'static [File<'static>],
+    &'static str,
+    &'static str,
+    &'static str,
+);
 
 static EACH_OF_TWO: [AskedOfTwo; 3] = [
     (
-        [("A.scala", ONE_VAL), ("B.scala", "object B { val x = 2 }")],
+        &[("A.scala", ONE_VAL), ("B.scala", "object B { val x = 2 }")],
         "B.scala",
         "▮object B { val x = 2 }",
         "ObjectDef, -, object B, ▮object B { val x = 2 }▮",
     ),
     (
-        [("A.scala", ONE_VAL), ("B.scala", "")],
+        &[("A.scala", ONE_VAL), ("B.scala", "")],
         "A.scala",
         "object A { val x = ▮1 }",
         "Literal, Int, -, object A { val x = ▮1▮ }",
     ),
     (
-        [("B.scala", LATER_VAL), ("A.scala", ONE_VAL)],
+        &[("B.scala", LATER_VAL), ("A.scala", ONE_VAL)],
         "C.scala",
         "▮",
         "no unit",
@@ -294,13 +299,13 @@ static EACH_OF_TWO: [AskedOfTwo; 3] = [
 
 static LATER_TEXTS: [AskedOfTwo; 2] = [
     (
-        [("A.scala", ONE_VAL), ("A.scala", "object C { val z = 10 }")],
+        &[("A.scala", ONE_VAL), ("A.scala", "object C { val z = 10 }")],
         "A.scala",
         "object C { val z = 10 }▮",
         "ObjectDef, -, object C, ▮object C { val z = 10 }▮",
     ),
     (
-        [("A.scala", LATER_VAL), ("A.scala", ONE_VAL)],
+        &[("A.scala", LATER_VAL), ("A.scala", ONE_VAL)],
         "A.scala",
         "object A { val x = ▮1 }",
         "Literal, Int, -, object A { val x = ▮1▮ }",
@@ -309,13 +314,13 @@ static LATER_TEXTS: [AskedOfTwo; 2] = [
 
 static ONE_UNREAD: [AskedOfTwo; 2] = [
     (
-        [("A.scala", ONE_VAL), ("B.scala", "object A { val y = 2 }")],
+        &[("A.scala", ONE_VAL), ("B.scala", "object A { val y = 2 }")],
         "A.scala",
         "object A { val x = ▮1 }",
         "unread",
     ),
     (
-        [("A.scala", ONE_VAL), ("B.scala", LATER_VAL)],
+        &[("A.scala", ONE_VAL), ("B.scala", LATER_VAL)],
         "A.scala",
         "object A { val x = ▮1 }",
         "unread",
