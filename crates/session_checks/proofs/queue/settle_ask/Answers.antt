@@ -3,12 +3,12 @@ use Rattle.ask_history.specs.Journal.{is_settled}
 use Rattle.ask_history.proofs.Orders.{is_open-from, is_next-from}
 use Rattle.session_checks.proofs.queue.settle_ask.Goals as goal
 
-pub settle-requires-clause-unanswered : goal.settle-requires-clause-unanswered
-settle-requires-clause-unanswered c =
+pub settle-effect-requires-clause-unanswered : goal.settle-effect-requires-clause-unanswered
+settle-effect-requires-clause-unanswered c =
     is_open-from c.args.queue.now.journal 1 c.requires.legal (omega (arith, c.requires.count)) c.requires.unsettled
 
-pub settle-requires-clause-next : goal.settle-requires-clause-next
-settle-requires-clause-next c =
+pub settle-effect-requires-clause-next : goal.settle-effect-requires-clause-next
+settle-effect-requires-clause-next c =
     is_next-from c.args.queue.now.journal 1
     (λ k h.
     let none : k ≡ 0 = omega arith in
