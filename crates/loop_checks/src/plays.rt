@@ -44,10 +44,13 @@ enum Act {
     Stop,
 }
 
+// `val x = 1` is 11-20, and `1` is 19-20.
 const ONE: &str = "object A { val x = 1 }";
 
+// `val y = 22` is 11-21.
 const TWO: &str = "object B { val y = 22 }";
 
+// `val zz = 333` is 11-23.
 const OTHER: &str = "object C { val zz = 333 }";
 
 const UNREAD: &str = "object D { val a = b }";

@@ -12,7 +12,9 @@ use pc_terms::{NoMemory, Row, Text};
 use script_text::{read_schedule, with_texts};
 use std::alloc::Global;
 
-/// The paths of the schedules, each with its text.
+/// The paths of the schedules, each with its text. The asks are about these parts: in the first text `val x = 1` at
+/// 11-20 with its name at 15, and `1` at 19-20; in the second `"s"` at 19-22; in the last two the last `b`, at 30-31
+/// and 31-32.
 const TEXTS: [(&str, &str); 6] = [
     ("a.txt", "object A { val x = 1 }"),
     ("a2.txt", "object A { val x = \"s\" }"),

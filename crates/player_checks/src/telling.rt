@@ -13,8 +13,8 @@ use std::sync::Arc;
 use std::sync::atomic::{AtomicU64, Ordering};
 use std::test::Fail;
 
-/// A schedule, and what is told of its checks: 1 and 3 for the file A, told to the first and to the second reporter, and
-/// 2 and 4 for another file.
+/// A schedule, and what is told of its checks: 1 and 3 for the file A, told to the first and to the second reporter,
+/// and 2 and 4 for another file.
 type Case = (&'static str, u64);
 
 static CASES: [Case; 8] = [

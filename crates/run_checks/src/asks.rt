@@ -6,6 +6,7 @@ use std::test::Fail;
 
 const LITERAL_20: &str = "reload A.scala a.txt\ntype A.scala 20\n";
 
+// The `x` at the end is 30-31.
 const TWO_VALS: &str = "object A { val x = 1; val y = x }";
 
 const LITERAL_PRINTED: &str = "journal\t4\n\

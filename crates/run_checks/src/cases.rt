@@ -65,10 +65,10 @@ pub const USAGE: Case = Case {
     ..DONE
 };
 
-/// 22 bytes.
+/// 22 bytes: `val x = 1` is 11-20, and `1` is 19-20.
 pub const A: &str = "object A { val x = 1 }";
 
-/// 24 bytes.
+/// 24 bytes: `"s"` is 19-22.
 pub const A2: &str = "object A { val x = \"s\" }";
 
 pub const LITERAL: &str = "reload A.scala a.txt\ntype A.scala 19\n";

@@ -34,8 +34,8 @@ impl CountingFiles {
     /// Whether a name was read again.
     pub fn were_read_again(&self) -> bool {
         let reads = self.reads.as_slice();
-        for (place, name) in reads.iter().enumerate() {
-            if reads[..place].contains(name) {
+        for (position, name) in reads.iter().enumerate() {
+            if reads[..position].contains(name) {
                 return true;
             }
         }
