@@ -20,8 +20,9 @@ use Rattle.session_input.proofs.ReadLemmas.{fault_or_told}
 use Rattle.session_input.proofs.FaultLemmas.{fault_names}
 use Rattle.session_run.specs.Words.{mode_of, schedule_of}
 use Rattle.session_run.specs.Printed.{printed, Wrote}
-use Rattle.session_run.specs.Reading.{IsReadAs, HasInput, RoseAsTold, HasReadFaults, HasWriteFault, NamesReadFile}
-use Rattle.session_run.specs.Session.{IsSessionEnding, SessionOwes}
+use Rattle.session_run.specs.Reading.{HasInput, RoseAsTold, HasReadFaults, HasWriteFault, NamesReadFile}
+use Rattle.session_run.specs.Run.{IsSessionEnding}
+use Rattle.session_run.specs.Session.{SessionOwes}
 use Rattle.session_run.specs.Owed.{Seen, IsJournalOf, Completes, IsRun}
 use Rattle.session_run.specs.Telling.{IsOrNoMemory}
 use Rattle.session_run.specs.declared.modes.Mode.{Mode}
@@ -31,14 +32,6 @@ use Rattle.session_run.specs.declared.ending.Ending.TheVariants as ending
 use Rattle.session_run.proofs.SessionLemmas.{grew_by_nothing}
 
 -- ---- a session
-
-read_as_played : (content : Bytes → Option Bytes) (schedule : Bytes) (lines : List Line) (ended : Ending) → IsSessionEnding ended → ComesTo content (schedule_reading schedule) (Ok lines) → IsReadAs content schedule (Some lines) ended
-read_as_played content schedule lines ending.Done ends read = read
-read_as_played content schedule lines ending.WriteFault ends read = read
-read_as_played content schedule lines ending.NoMemory ends read = read
-read_as_played content schedule lines ending.Usage ends read = absurd ends
-read_as_played content schedule lines ending.SpawnFault ends read = absurd ends
-read_as_played content schedule lines (ending.Refused why) ends read = absurd ends
 
 no_fault_played : (ended : Ending) (before now : ℕ) (last : Option Bytes) → IsSessionEnding ended → RoseAsTold ended before now last
 no_fault_played ending.Done before now last ends = tt
@@ -71,7 +64,7 @@ pub run_played : (answer_of : Sources → Call → Answer) (problems_of : Source
     → IsRun answer_of problems_of content words seen ended journal
 run_played answer_of problems_of content words seen lines ended journal alone read risen owes = record {
   began = Some lines;
-  input = subst (λ (m : Mode). HasInput m content (schedule_of words) (Some lines) ended) (sym alone) (read_as_played content (schedule_of words) lines ended owes.ends read);
+  input = subst (λ (m : Mode). HasInput m content (schedule_of words) (Some lines) ended) (sym alone) (owes.ends, read);
   ran = owes.ran;
   legal = owes.legal;
   settled = owes.settled;
@@ -159,7 +152,7 @@ run_refused answer_of problems_of content words seen ended input reading out eng
 
 out_of_memory_input : (mode : Mode) (content : Bytes → Option Bytes) (schedule : Bytes) (began : Option (List Line)) (why : Refusal) → HasInput mode content schedule began (ending.Refused why) → HasInput mode content schedule began ending.NoMemory
 out_of_memory_input Alone content schedule None why input = tt
-out_of_memory_input Alone content schedule (Some lines) why input = absurd input
+out_of_memory_input Alone content schedule (Some lines) why input = absurd input.0
 out_of_memory_input Threads content schedule began why input = let e = input.1 in cc
 out_of_memory_input Bad content schedule began why input = let e = input.1 in cc
 

@@ -20,7 +20,8 @@ use Rattle.schedule_player.specs.Owed.{CanPlay, CanPlayAll, PlayOwes, IsCutShort
 use Rattle.schedule_player.specs.declared.played.Played.{Played}
 use Rattle.std.proofs.lemmas.Bool.{false≢true}
 use Rattle.session_run.specs.Owed.{IsWhole, IsJournalOf}
-use Rattle.session_run.specs.Session.{EndsSession, IsSessionEnding, SessionSeen, SessionOwes}
+use Rattle.session_run.specs.Run.{EndsSession, IsSessionEnding}
+use Rattle.session_run.specs.Session.{SessionSeen, SessionOwes}
 use Rattle.session_run.specs.Reading.{HasWriteFault}
 use Rattle.session_run.specs.Shown.{shown_line}
 use Rattle.session_run.proofs.ShownLemmas.{session-shown}

@@ -8,20 +8,19 @@ use Rattle.session_input.specs.Input.{schedule_reading}
 use Rattle.session_input.specs.Reads.{ComesTo}
 use Rattle.session_input.specs.declared.refusal.Refusal.TheVariants.{ReadFault}
 use Rattle.session_input.specs.declared.refusal.NoInput.TheVariants.{Refused}
+use Rattle.session_run.specs.Run.{IsSessionEnding}
 use Rattle.session_run.specs.declared.ending.Ending.{Ending}
 use Rattle.session_run.specs.declared.ending.Ending.TheVariants as ending
 use Rattle.session_run.specs.declared.modes.Mode.{Mode}
 use Rattle.session_run.specs.declared.modes.Mode.TheVariants.{Alone}
 
--- The lines that are played in a session, where one begins, are those of the schedule with their texts. Else the schedule,
--- or a source, is refused for the first reason that reading comes to, or memory is missing.
+-- Where a session begins and ends, its lines are those of the schedule with their texts. Where none begins, the schedule, or
+-- a source, is refused for the first reason that reading comes to, or memory runs out.
 abbrev pub IsReadAs : (Bytes → Option Bytes) → Bytes → Option (List Line) → Ending → Type 0
 IsReadAs content schedule None (ending.Refused why) = ComesTo {A = List Line} content (schedule_reading schedule) (Err (Refused why))
 IsReadAs content schedule None ending.NoMemory = ⊤
-IsReadAs content schedule (Some lines) ending.Done = ComesTo content (schedule_reading schedule) (Ok lines)
-IsReadAs content schedule (Some lines) ending.WriteFault = ComesTo content (schedule_reading schedule) (Ok lines)
-IsReadAs content schedule (Some lines) ending.NoMemory = ComesTo content (schedule_reading schedule) (Ok lines)
-IsReadAs content schedule _ _ = ⊥
+IsReadAs content schedule None _ = ⊥
+IsReadAs content schedule (Some lines) ended = IsSessionEnding ended × ComesTo content (schedule_reading schedule) (Ok lines)
 
 -- Words that are no command of this call are answered with its usage.
 abbrev pub HasInput : Mode → (Bytes → Option Bytes) → Bytes → Option (List Line) → Ending → Type 0

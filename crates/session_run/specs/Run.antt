@@ -1,5 +1,5 @@
--- How a run ends: its status, and the line that a user reads.
-use Rattle.std.specs.Prelude.{ℕ, [], ◌++◌, codes}
+-- How a run ends: with or without a session, its status, and the line that a user reads.
+use Rattle.std.specs.Prelude.{◌≡◌, ⊤, true, ℕ, Bool, [], ◌++◌, codes}
 use Rattle.std.specs.Fmt.{decimal}
 use Rattle.pc_terms.specs.Bytes.{Bytes, line_end}
 use Rattle.session_input.specs.declared.limits.Limit.{Limit}
@@ -8,6 +8,18 @@ use Rattle.session_input.specs.declared.refusal.Refusal.{Refusal}
 use Rattle.session_input.specs.declared.refusal.Refusal.TheVariants as refusal
 use Rattle.session_run.specs.declared.ending.Ending.{Ending}
 use Rattle.session_run.specs.declared.ending.Ending.TheVariants as ending
+
+-- ---- sessions
+
+-- how a session ends, of which the lines were all played or not
+abbrev pub EndsSession : Bool → Ending → Type 0
+EndsSession whole ending.Done = whole ≡ true
+EndsSession whole ending.WriteFault = whole ≡ true
+EndsSession whole ending.NoMemory = ⊤
+EndsSession whole _ = ⊥
+
+abbrev pub IsSessionEnding : Ending → Type 0
+IsSessionEnding ended = EndsSession true ended
 
 -- ---- statuses
 

@@ -1,5 +1,5 @@
 -- What playing the lines of a schedule and printing the session owes.
-use Rattle.std.specs.Prelude.{◌≡◌, ⊤, true, ℕ, Bool, List, IsTrue, Option, Some}
+use Rattle.std.specs.Prelude.{◌≡◌, true, ℕ, List, IsTrue, Option, Some}
 use Rattle.pc_terms.specs.Bytes.{Bytes}
 use Rattle.pc_terms.specs.declared.problems.Problem.{Problem}
 use Rattle.ask_history.specs.Sources.{Sources}
@@ -15,19 +15,9 @@ use Rattle.report_hub.specs.Told.{WasToldMost}
 use Rattle.schedule_player.specs.Owed.{IsAtRest}
 use Rattle.session_run.specs.Printed.{transcript, Wrote}
 use Rattle.session_run.specs.Reading.{HasWriteFault}
+use Rattle.session_run.specs.Run.{IsSessionEnding}
 use Rattle.session_run.specs.Owed.{IsJournalOf}
 use Rattle.session_run.specs.declared.ending.Ending.{Ending}
-use Rattle.session_run.specs.declared.ending.Ending.TheVariants as ending
-
--- how a session ends, of which the lines were all played or not
-abbrev pub EndsSession : Bool → Ending → Type 0
-EndsSession whole ending.Done = whole ≡ true
-EndsSession whole ending.WriteFault = whole ≡ true
-EndsSession whole ending.NoMemory = ⊤
-EndsSession whole _ = ⊥
-
-abbrev pub IsSessionEnding : Ending → Type 0
-IsSessionEnding ended = EndsSession true ended
 
 -- what the output, the engine and the reporter tell before a session and after it
 pub record SessionSeen : Type 0 where

@@ -6,7 +6,8 @@ ghost use Rattle.report_hub.specs.Hub.{IsSameBox};
 ghost use Rattle.schedule_player.specs.Owed.{CanPlayAll};
 ghost use Rattle.session_run.specs.Printed.{session_of, Wrote};
 ghost use Rattle.session_run.specs.Reading.{HasWriteFault};
-ghost use Rattle.session_run.specs.Session.{EndsSession, IsSessionEnding, SessionOwes};
+ghost use Rattle.session_run.specs.Run.{EndsSession, IsSessionEnding};
+ghost use Rattle.session_run.specs.Session.{SessionOwes};
 
 use crate::Ending;
 use crate::reported::play_reported;
