@@ -1,5 +1,5 @@
 -- What the calls of a client's pass do.
-use Rattle.std.specs.Prelude.{◌≡◌, ℕ, ◌==◌, ◌<◌, true, false, Bool, IsTrue, if◌then◌else◌, List, [], ◌∷◌, ◌++◌, map, Some, None}
+use Rattle.std.specs.Prelude.{◌≡◌, ⊤, ℕ, ◌==◌, ◌<◌, true, false, Bool, IsTrue, if◌then◌else◌, List, [], ◌∷◌, ◌++◌, map, Some, None}
 use Rattle.std.specs.List.{list_any}
 use Rattle.ask_history.specs.Closing.{open_tickets}
 use Rattle.ask_history.specs.Journal.{accepted, is_closed, is_settled}
@@ -62,6 +62,11 @@ pub record Accepts (old new : PassState) (ticket tag : ℕ) (call : Call) : Type
 pub record Refuses (old new : PassState) (why : PostRefused) : Type 0 where
   pub writes : Writes old new.history [] new
   pub shut : (index : ℕ) → why ≡ Closed index → is_closed (journal_of new.history) ≡ true
+
+-- A client may stop where a call is refused for such a reason: for every one but that the session is shut down.
+abbrev pub MayStop : PostRefused → Type 0
+MayStop (Closed index) = ⊥
+MayStop _ = ⊤
 
 -- A ticket is cancelled, unless it is settled or cancelled.
 pub record Cancels (old new : PassState) (ticket : ℕ) : Type 0 where

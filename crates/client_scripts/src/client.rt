@@ -6,6 +6,7 @@ ghost use Rattle.ask_history.specs.Legal.{is_legal};
 ghost use Rattle.work_queue.specs.Reloads.{reloaded_by};
 ghost use Rattle.client_scripts.specs.Lines.{AreMeant, AllMayPost};
 ghost use Rattle.client_scripts.specs.History.{journal_of, has_entry_of};
+ghost use Rattle.client_scripts.specs.Passes.{MayStop};
 ghost use Rattle.client_scripts.specs.Runs.{Runs, HasEnded, AreAnswers};
 ghost use Rattle.client_scripts.specs.Holding.{IsHolding, IsPlaying, CanReceive, Gives, Posts, Rests, CancelsAt, ReceivesAt, HasStopped, is_had, had_answer};
 
@@ -66,6 +67,7 @@ impl<T: Drop> Client<T> {
         requires fits { self.old.next + 1 < 2 ^ 64 }
         ensures ok { IfOk result (λ done. Posts P.number_of (P.state pass.old) (P.state pass.new) self.old self.new call.now) }
         ensures err { IfErr result (λ why. Rests (P.state pass.old) (P.state pass.new)) }
+        ensures reason { IfErr result MayStop }
     {
         if self.held.reserve(1).is_err() {
             return Err(PostRefused::NoMemory);
@@ -133,6 +135,7 @@ impl<T: Drop> Client<T> {
         requires playing { IsPlaying P.number_of (P.state pass.old).number lines.now (take at lines.now) (P.state pass.old) self.old }
         ensures ok { IfOk result (λ done. IsPlaying P.number_of (P.state pass.old).number lines.now (take (at + 1) lines.now) (P.state pass.new) self.new) }
         ensures err { IfErr result (λ why. HasStopped (P.state pass.old).number lines.now (P.state pass.new)) }
+        ensures reason { IfErr result MayStop }
     {
         match &lines[at].order {
             Order::Call(call) => self.call(pass, call),
@@ -198,6 +201,7 @@ pub fn play<P: ClientPass>(
     ensures runs { Runs (P.state pass.old).number script.now.lines (P.state pass.new).history }
     ensures ended { IfOk result (λ answers. HasEnded (P.state pass.old).number script.now.lines (P.state pass.new).history) }
     ensures answers { IfOk result (AreAnswers (P.state pass.old).number (P.state pass.new).history) }
+    ensures reason { IfErr result MayStop }
 {
     let mut client = Client {
         next: 1,
