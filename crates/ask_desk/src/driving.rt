@@ -33,7 +33,7 @@ pub enum CheckNoted {
     Noted,
     /// The session was shut down before.
     ShutDown,
-    /// Memory could not be had, and nothing is noted.
+    /// Memory ran out, and nothing is noted.
     NoMemory,
 }
 

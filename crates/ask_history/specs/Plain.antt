@@ -10,7 +10,7 @@ use Rattle.ask_history.specs.declared.events.Event.TheVariants.{Accept, Settle}
 use Rattle.ask_history.specs.declared.script.Order.TheVariants as order
 use Rattle.ask_history.specs.declared.script.Line.{Line}
 
--- the mark of a ticket, where memory could not be had for these
+-- the mark of a ticket, where memory ran out for these
 abbrev pub mark_of : List ℕ → ℕ → Mark
 mark_of without ticket = if list_any (λ t. t == ticket) without then mark.NoMemory else mark.Done
 

@@ -37,9 +37,9 @@ pub enum Turn {
     Checked(Text, Row<Problem>),
     /// No call is open, and there is nothing to check.
     Idle,
-    /// Memory could not be had for the call on top.
+    /// Memory ran out for the call on top.
     NoMemory(u64),
-    /// No call is open, and memory could not be had for the check of this file, the first that was due. It is skipped.
+    /// No call is open, and memory ran out for the check of this file, the first that was due. It is skipped.
     CheckNoMemory(Text),
 }
 

@@ -1,7 +1,7 @@
 use crate::Call;
 use pc_terms::{Row, Text};
 
-/// What a settled call found: `NoMemory` where memory could not be had for it.
+/// What a settled call found: `NoMemory` where memory ran out for it.
 #[derive(Clone, Copy, Debug, PartialEq, Eq)]
 pub enum Mark {
     Done,

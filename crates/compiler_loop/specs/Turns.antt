@@ -12,7 +12,7 @@ use Rattle.compiler_loop.specs.declared.checks.Outcome.{Outcome}
 use Rattle.compiler_loop.specs.declared.checks.Outcome.TheVariants.{Checked, Skipped}
 use Rattle.compiler_loop.specs.declared.loaded.LoadedFiles.{LoadedFiles}
 
--- the ask on top is answered, or memory could not be had for it
+-- the ask on top is answered, or memory ran out for it
 abbrev pub AnswersTop : Sources → List (ℕ × Call) → Turn → Type 0
 AnswersTop sources asks (turn.Ready ticket found) = (call : Call) × IsOnTop asks (ticket, call) × (found ≡ thin_answer sources call)
 AnswersTop sources asks (turn.NoMemory ticket) = IsTicketOnTop asks ticket

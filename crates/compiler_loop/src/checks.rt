@@ -12,7 +12,7 @@ use std::collections::VecDeque;
 #[derive(Clone, Copy)]
 pub enum Outcome {
     Checked,
-    /// Memory could not be had for it.
+    /// Memory ran out for it.
     Skipped,
 }
 

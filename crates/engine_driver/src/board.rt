@@ -17,7 +17,7 @@ pub struct News {
 pub enum Posted {
     /// A copy of its call, which is not settled.
     Call(Call),
-    /// It is not settled, and memory for a copy of its call could not be had.
+    /// It is not settled, and memory ran out for a copy of its call.
     NoMemory,
     /// It is settled, as every call is behind the shutdown.
     Settled,
@@ -30,7 +30,7 @@ pub enum CheckNoted {
     Noted,
     /// The session was shut down before.
     ShutDown,
-    /// Memory could not be had, and nothing is noted.
+    /// Memory ran out, and nothing is noted.
     NoMemory,
 }
 
@@ -61,7 +61,7 @@ pub trait Board {
         ensures later { IsLater (history self.old) (history self.new) }
         ensures finds { Finds (journal_of (history self.new)) ticket result };
 
-    /// Settles the call of a ticket that was open with what was found for it, `None` where memory could not be had; nothing is
+    /// Settles the call of a ticket that was open with what was found for it, `None` where memory ran out; nothing is
     /// written where the session is shut down by then. Says whether a mutation takes effect. It takes no memory.
     fn settle(&mut self, ticket: u64, found: Option<Answer>) -> Effect
         requires unanswered { IsTrue (is_open (journal_of (history self.old)) ticket) }

@@ -14,7 +14,7 @@ use ask_history::Engine;
 use pc_terms::{Problem, Row, Text};
 use report_hub::Hub;
 
-/// Notes a check, and then tells and keeps what it found. Where room for the problems or memory for the event cannot be had, or
+/// Notes a check, and then tells and keeps what it found. Where memory runs out for the problems or for the event, or
 /// the session is shut down by then, there is no event, nobody is told, and nothing is kept.
 pub fn note<B: Board, E: Engine>(
     board: &mut B,

@@ -2,7 +2,7 @@
 -- `V` their ordinary values.
 use Rattle.std.specs.Prelude.{Option, None, Some}
 
--- What is known of an item: its value, or that it cannot be had without itself.
+-- What is known of an item: its value, or that it cannot be found without itself.
 pub data Info (V : Type 0) : Type 0 where
   Has : V → Info V
   Cyclic : Info V

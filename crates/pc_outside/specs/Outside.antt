@@ -39,7 +39,7 @@ PutCounts (Err put.NoMemory) before now whole whole' = (before ≤ now) × (whol
 
 -- ---- threads
 
--- What asking for a thread does to the count of faults: where none could be had, it rose.
+-- What asking for a thread does to the count of faults: where none could be started, it rose.
 abbrev pub SpawnCounts : Bool → ℕ → ℕ → Type 0
 SpawnCounts true before now = before ≤ now
 SpawnCounts false before now = Rose before now × (before ≤ now)

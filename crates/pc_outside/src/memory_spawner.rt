@@ -5,7 +5,7 @@ use crate::failure_plan::FailurePlan;
 use std::sync::Wait;
 use std::thread::Threads;
 
-/// Threads of a test. At the calls that are to fail none can be had; else one can, without a try.
+/// Threads of a test. At the calls that are to fail none can be started; else one can, without a try.
 #[derive(Drop)]
 pub struct MemorySpawner {
     plan: FailurePlan,

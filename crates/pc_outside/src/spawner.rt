@@ -15,15 +15,15 @@ pub struct NotBegun<F, G> {
 pub trait Spawner {
     ghost use Rattle.pc_outside.specs.Outside.{SpawnCounts};
 
-    /// How often no thread could be had. It never falls.
+    /// How often no thread could be started. It never falls.
     ghost faults: { Self → ℕ };
 
-    /// Whether a thread can be had now.
+    /// Whether a thread can be started now.
     fn has_thread<R: Threads + Wait>(&mut self, rt: &R) -> bool
         ensures counts { SpawnCounts result (faults self.old) (faults self.new) };
 }
 
-/// Runs both closures, each in a thread, and gives both results. Where no thread can be had it begins neither, and both come
+/// Runs both closures, each in a thread, and gives both results. Where no thread can be started it begins neither, and both come
 /// back unchanged.
 pub fn beside<
     S: Spawner,

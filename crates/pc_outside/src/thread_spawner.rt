@@ -4,7 +4,7 @@ use crate::Spawner;
 use std::sync::Wait;
 use std::thread::{Threads, spawn};
 
-/// Threads of the system. A thread that does nothing is started and joined first; where it cannot be had, no closure is
+/// Threads of the system. A thread that does nothing is started and joined first; where it cannot be started, no closure is
 /// begun. So closures that wait for each other are not run one after the other.
 #[derive(Drop)]
 pub struct ThreadSpawner {
@@ -28,7 +28,7 @@ impl ThreadSpawner {
     }
 }
 
-// Whether a thread can be had now. The one that is started does nothing, and has ended.
+// Whether a thread can be started now. The one that is started does nothing, and has ended.
 fn can_start<R: Threads>(rt: &R) -> bool {
     match spawn(rt, || ()) {
         Ok(idle) => {

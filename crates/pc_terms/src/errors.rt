@@ -2,7 +2,7 @@ ghost use Rattle.std.specs.Prelude.{◌≡◌};
 
 use std::alloc::{AllocError, AllocFailed};
 
-/// Memory could not be had. It has one value, so an answer that says it says no more.
+/// Out of memory. It has one value, so an answer that says it says no more.
 #[derive(Clone, Copy, Debug, PartialEq, Eq)]
 pub struct NoMemory {}
 

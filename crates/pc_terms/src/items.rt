@@ -13,7 +13,7 @@ pub enum Item {
     Qualifier(Text, u32),
 }
 
-/// The value of an item. `Cyclic` is that of one which cannot be had without itself.
+/// The value of an item. `Cyclic` is that of one which cannot be found without itself.
 #[derive(Debug, Drop)]
 pub enum ItemValue {
     Parents(Row<Ty>),

@@ -105,7 +105,7 @@ impl<T> Stack<T> {
 impl<T: Drop> Stack<T> {
     ghost use Rattle.safe_points.specs.Stack.{is_on};
 
-    /// Puts a task on top. Where memory cannot be had the task is dropped, and the stack stays.
+    /// Puts a task on top. Where memory runs out the task is dropped, and the stack stays.
     pub fn push(&mut self, ticket: u64, task: T) -> Result<(), NoMemory>
         requires { is_on self.old ticket ≡ false }
         ensures ok { OnOk result (self.new ≡ self.old ++ record { ticket = ticket; task = task; stale = false } ∷ []) }

@@ -9,6 +9,6 @@ pub struct Played {
     pub answers: Row<Answer>,
     /// The problems of each checked file, in the order of the checks.
     pub problems: Row<Row<Problem>>,
-    /// Whether every line was played. Else memory could not be had, and what was open is settled so.
+    /// Whether every line was played. Else memory ran out, and what was open is settled so.
     pub whole: bool,
 }

@@ -9,7 +9,7 @@ pub enum ScriptRefused {
     /// The first line outside the grammar, counted from 1. Lines that are passed over count.
     #[error("line {0} is outside the grammar")]
     BadLine(u64),
-    /// Memory could not be had. It says nothing of the text.
+    /// Out of memory. It says nothing of the text.
     #[error("no memory")]
     NoMemory,
 }

@@ -11,7 +11,7 @@ pub enum Ending {
     Refused(Refusal),
     /// The output could not be written; a part of it may stand there.
     WriteFault,
-    /// No threads could be had for clients. The session was shut down before any call.
+    /// No threads could be started for clients. The session was shut down before any call.
     SpawnFault,
     /// No memory was found. A part of the output may stand there.
     NoMemory,

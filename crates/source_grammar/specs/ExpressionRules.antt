@@ -100,9 +100,16 @@ abbrev pub is_function_type : WrittenType → Bool
 is_function_type (Simple simple) = false
 is_function_type _ = true
 
-abbrev pub is_new_function : Prim → Bool
-is_new_function (NewOf word type) = is_function_type type
-is_new_function _ = false
+-- a `new` of a function type stands in it, outside brackets
+abbrev pub has_new_function : Prim → Bool
+has_new_function (NewOf word type) = is_function_type type
+has_new_function (NewWith word type args) = is_function_type type
+has_new_function (SelectPrim prim point id) = has_new_function prim
+has_new_function (SelectHole prim point) = has_new_function prim
+has_new_function (TypeApplyPrim prim opening types closing) = has_new_function prim
+has_new_function (ApplyPrim prim args) = has_new_function prim
+has_new_function (EtaPrim prim place) = has_new_function prim
+has_new_function _ = false
 
 -- ---- prefix operators
 
@@ -127,9 +134,9 @@ abbrev pub prim_of : Prefix → Prim
 prim_of (Unsigned prim) = prim
 prim_of (Signed sign prim) = prim
 
-abbrev pub last_prim : Infix → Prim
-last_prim (LastPrefix prefix) = prim_of prefix
-last_prim (MorePrefixes prefix operator rest) = last_prim rest
+abbrev pub any_new_function : Infix → Bool
+any_new_function (LastPrefix prefix) = has_new_function (prim_of prefix)
+any_new_function (MorePrefixes prefix operator rest) = has_new_function (prim_of prefix) || any_new_function rest
 
 -- an identifier behind it is an operator: it is the name of no Hole, and the operand of no prefix operator
 abbrev pub is_before_operator : Prefix → Bool
@@ -294,12 +301,12 @@ module _ (rule : Rule) where
     ProperCases (LastCase c) = ProperCase c
     ProperCases (MoreCases c cases) = ProperCase c × ProperCases cases
 
-    -- The list of statements ends where the next case begins. A `=>` behind the guard is that of the case.
+    -- The list of statements ends where the next case begins. The first `=>` outside brackets behind `if` is that of the case.
     pub ProperCase : Case → Type 0
     ProperCase (CaseOf word pat arrow stats) =
         ProperPat pat × (has_no_case [] (bstats_tokens stats) ≡ true) × ProperBStats WithinExpr stats
     ProperCase (GuardedCase word pat guard test arrow stats) =
-        ProperPat pat × ProperInfix test × (are_of_one_side (infix_operators test) ≡ true) × (is_new_function (last_prim test) ≡ false)
+        ProperPat pat × ProperInfix test × (are_of_one_side (infix_operators test) ≡ true) × (any_new_function test ≡ false)
         × (has_no_case [] (bstats_tokens stats) ≡ true) × ProperBStats WithinExpr stats
 
     pub ProperDef : ListKind → Def → Type 0

@@ -5,7 +5,7 @@ use Rattle.std.specs.Str.{bytes_eq}
 use Rattle.std.specs.Char.{is_ascii_digit}
 use Rattle.pc_terms.specs.Number.{value_of}
 use Rattle.pc_terms.specs.declared.problems.Code.{Code}
-use Rattle.pc_terms.specs.declared.problems.Code.TheVariants.{P1, P2, P3, P4, P5}
+use Rattle.pc_terms.specs.declared.problems.Code.TheVariants.{S1, S2, S3, S4, S5, P1, P2, P3, P4, P5}
 use Rattle.pc_terms.specs.declared.problems.Problem.{Problem}
 use Rattle.pc_terms.specs.declared.problems.Span.{Span}
 use Rattle.pc_terms.specs.declared.tree_kinds.TreeKind.{TreeKind}
@@ -180,16 +180,21 @@ problems_at _ label span = []
 abbrev pub tree_problems : Tree → List Problem
 tree_problems tree = problems_at (out-Tree tree).kind (out-Tree tree).label (out-Tree tree).span
 
--- those of the parser in the order of their codes
+-- those of the scanner and of the parser in the order of their codes
 abbrev pub code_rank : Code → ℕ
-code_rank P1 = 1
-code_rank P2 = 2
-code_rank P3 = 3
-code_rank P4 = 4
-code_rank P5 = 5
-code_rank _ = 0
+code_rank S1 = 1
+code_rank S2 = 2
+code_rank S3 = 3
+code_rank S4 = 4
+code_rank S5 = 5
+code_rank P1 = 6
+code_rank P2 = 7
+code_rank P3 = 8
+code_rank P4 = 9
+code_rank P5 = 10
+code_rank _ = 11
 
--- by start, end and code; problems of one code have one text here, and those of the scanner have spans of their own
+-- by start, end and code
 abbrev pub is_before : Problem → Problem → Bool
 is_before a b =
     nat_lt a.span.start b.span.start || (a.span.start == b.span.start &&
@@ -197,9 +202,9 @@ is_before a b =
 
 abbrev pub insert : Problem → List Problem → List Problem
 insert p [] = p ∷ []
-insert p (q ∷ qs) = if is_before p q then p ∷ q ∷ qs else (if is_before q p then q ∷ insert p qs else q ∷ qs)
+insert p (q ∷ qs) = if is_before p q then p ∷ q ∷ qs else (if is_before q p then q ∷ insert p qs else p ∷ qs)
 
--- in order, and equal ones once
+-- in order, and of those of one place and code the first
 abbrev pub ordered : List Problem → List Problem
 ordered [] = []
 ordered (p ∷ ps) = insert p (ordered ps)

@@ -26,7 +26,7 @@ pub enum PostRefused {
     TextFull(u64),
     /// The session was shut down, at this journal index.
     Closed(u64),
-    /// Memory could not be had.
+    /// Out of memory.
     NoMemory,
     /// With this call, this many names would have been reloaded.
     NamesFull(u64),
@@ -47,6 +47,6 @@ pub enum CancelSeen {
 #[derive(Debug, Drop)]
 pub enum Settling {
     Value(Answer),
-    /// Memory could not be had for it.
+    /// Memory ran out for it.
     NoMemory,
 }

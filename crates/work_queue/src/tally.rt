@@ -42,7 +42,7 @@ impl Tally {
     }
 
     /// What the session would take up with these entries too. It takes no memory: where an index of the entries
-    /// cannot be had, their names are compared with each other.
+    /// cannot be made, their names are compared with each other.
     pub fn usage_with(&self, entries: &[(Text, Text)]) -> Usage
         requires { AreCountable self.now.usage entries.now }
         ensures { (before : List (Bytes × Bytes)) → IsTally before self.now → result ≡ usage_of (before ++ entries.now) }
