@@ -2,11 +2,19 @@
 #![tactic(auto)]
 
 #[cfg(test)]
+mod crowds;
+#[cfg(test)]
+mod drawn;
+#[cfg(test)]
 mod judge;
 #[cfg(test)]
 mod judging;
 #[cfg(test)]
 mod lines;
+#[cfg(test)]
+mod listener;
+#[cfg(test)]
+mod runs;
 #[cfg(test)]
 mod sources;
 #[cfg(test)]
