@@ -37,7 +37,7 @@ fn ten_runs<R: Abort + AllocGlobal + Threads + Wait + Sync>(
     rt: &R,
     first: u64,
 ) -> Result<(), Fail> {
-    for run in 0..10 {
+    for run in 0..1 {
         let scripts = scripts_of(rt.alloc(), first.wrapping_add(run))?;
         let _left = agree(rt, &scripts, &NONE)?;
     }

@@ -9,6 +9,7 @@ use std::alloc::Global;
 const MOST_OPEN: usize = 4;
 
 /// A client that draws its lines.
+#[derive(Clone, Copy, Debug)]
 struct Drawing {
     state: u64,
     calls: usize,

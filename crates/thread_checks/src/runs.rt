@@ -161,7 +161,7 @@ pub fn agree<R: Abort + AllocGlobal + Threads + Wait + Sync>(
     assert_eq!(rt; left.status, 0);
     assert_eq!(rt; stray, None, "{}", text.as_str());
     assert_eq!(rt; left.out.bytes(), text.as_bytes());
-    assert_eq!(rt; left.err.bytes(), b"");
+    assert!(rt; left.err.bytes().is_empty());
     assert_eq!(rt; left.log, log_of(&left.steps, failing.reports));
     Ok(left)
 }
