@@ -53,11 +53,11 @@ entry_by n event = record { event = event; author = n; found = callers_find even
 
 closed_in : (before : List Noted) (n : ℕ) (more : List Noted) → is_closed (journal_of (before ++ entry_by n Close ∷ more)) ≡ true
 closed_in [] n more = refl
-closed_in (first ∷ before) n more = by (is_close first.event)
+closed_in (first ∷ before) n more = by (is_close first.event) (closed_in before n more)
   where
-    by : (b : Bool) → (b || is_closed (journal_of (before ++ entry_by n Close ∷ more))) ≡ true
-    by true = refl
-    by false = closed_in before n more
+    by : (b : Bool) {c : Bool} → c ≡ true → (b || c) ≡ true
+    by true h = refl
+    by false h = h
 
 settling_of : (n : ℕ) (tickets : List ℕ) (front back : List Noted) (entry : Noted) → entries_of n (settled tickets) ≡ front ++ entry ∷ back → (t : ℕ) × (entry ≡ entry_by n (Settle t mark.Done))
 settling_of n [] [] back entry h = cc
@@ -109,7 +109,7 @@ made_at made history front back entry all at = by front (subst (λ (es : List No
 
 -- ---- a whole history
 
-module _ {B : Type 0} (answer_of : Sources → Call → Answer) (problems_of : Sources → Bytes → List Problem) where
+module _ (answer_of : Sources → Call → Answer) (problems_of : Sources → Bytes → List Problem) where
   engine_right : (start front back : List Noted) (entry : Noted) → drives.AreRight answer_of problems_of start (front ++ entry ∷ back) → entry.author ≡ engine_number
       → drives.IsRight answer_of problems_of (journal_of (start ++ front)) entry.event entry.found
   engine_right start [] back entry h mine =
@@ -118,6 +118,7 @@ module _ {B : Type 0} (answer_of : Sources → Call → Answer) (problems_of : S
       subst (λ (es : List Noted). drives.IsRight answer_of problems_of (journal_of es) entry.event entry.found) (append_assoc start (first ∷ []) front)
       (engine_right (start ++ first ∷ []) front back entry h.1 mine)
 
+module _ {B : Type 0} (answer_of : Sources → Call → Answer) (problems_of : Sources → Bytes → List Problem) where
   -- A history of clients that all have played, of which the engine's pass had seen this much while it served. Behind `before` the
   -- closing pass shut the session down. Each pass has seen all that is its own.
   pub record IsWhole (scripts : List Script) (all : List (Played B)) (before seen history : List Noted) : Type 0 where
@@ -151,26 +152,30 @@ module _ {B : Type 0} (answer_of : Sources → Call → Answer) (problems_of : S
         by None e k = cc
         by (Some client) e k = let same : client.script ≡ script = cc in record { client = client; there = e; plays = same }
 
-    abbrev played_by : (c : ℕ) (script : Script) → IsClient c script → HasPlayed {B} before c _
+    abbrev played_by : (c : ℕ) (script : Script) → IsClient c script → HasPlayed before c _
     played_by c script is = whole.played c is.client is.there
 
-    same_own : (c : ℕ) (script : Script) (is : IsClient c script) → entries_by c (played_by c script is).upto ≡ entries_by c history
-    same_own c script is = sym (played_by c script is).own ∙ whole.mine c is.client is.there
+    -- what a client had seen at the end of its script begins the history, and nothing of it stands behind
+    module _ (c : ℕ) (client : Played B) (at : slice_get all c ≡ Some client) where
+      abbrev own_upto : List Noted
+      own_upto = (whole.played c client at).upto
 
-    -- what it had seen at the end of its script begins the history
-    upto_begins : (c : ℕ) (script : Script) (is : IsClient c script) → IsPrefix (played_by c script is).upto history
-    upto_begins c script is =
-        begins-trans (played_by c script is).upto before history (played_by c script is).bounded (entries_of (length scripts) (closing (journal_of before)), sym whole.behind)
+      same_own : entries_by c own_upto ≡ entries_by c history
+      same_own = sym (whole.played c client at).own ∙ whole.mine c client at
 
-    pub upto_later : (c : ℕ) (script : Script) (is : IsClient c script) → IsLater c (map seen_entry (played_by c script is).upto) (map seen_entry history)
-    upto_later c script is =
-        let begins = upto_begins c script is in
-        record {
-          others = map seen_entry begins.0;
-          behind = ap (map seen_entry) (sym begins.1) ∙ map-append seen_entry (played_by c script is).upto begins.0;
-          theirs = none_by c begins.0 (rest_has_none c (played_by c script is).upto begins.0 history (sym begins.1) (same_own c script is));
-          legal = subst (λ js. IsTrue (is_legal js)) (sym (seen_journal history)) whole.legal;
-        }
+      upto_begins : IsPrefix own_upto history
+      upto_begins = begins-trans own_upto before history (whole.played c client at).bounded (entries_of (length scripts) (closing (journal_of before)), sym whole.behind)
+
+      none_later : entries_by c upto_begins.0 ≡ []
+      none_later = rest_has_none c own_upto upto_begins.0 history (sym upto_begins.1) same_own
+
+      pub own_later : IsLater c (map seen_entry own_upto) (map seen_entry history)
+      own_later = record {
+        others = map seen_entry upto_begins.0;
+        behind = ap (map seen_entry) (sym upto_begins.1) ∙ map-append seen_entry own_upto upto_begins.0;
+        theirs = none_by c upto_begins.0 none_later;
+        legal = subst (λ js. IsTrue (is_legal js)) (sym (seen_journal history)) whole.legal;
+      }
 
     -- ---- what each had seen, by its number
 
@@ -208,15 +213,15 @@ module _ {B : Type 0} (answer_of : Sources → Call → Answer) (problems_of : S
           let begins = whole.begins in
           let here = in_first seen begins.0 front back entry (begins.1 ∙ at)
           (λ f b e. none_of engine_number begins.0 f b entry (rest_has_none engine_number seen begins.0 history (sym begins.1) whole.engine) e mine) in
-          Engines (engine_right [] front here.back entry (subst (drives.AreRight answer_of problems_of []) here.whole whole.right) mine)
+          Engines (engine_right answer_of problems_of [] front here.back entry (subst (drives.AreRight answer_of problems_of []) here.whole whole.right) mine)
 
-      clients : (script : Script) → slice_get scripts entry.author ≡ Some script → Maker front entry
-      clients script there =
+      client_entry : (script : Script) → slice_get scripts entry.author ≡ Some script → Maker front entry
+      client_entry script there =
           let is = client_of entry.author script there in
           let played = whole.played entry.author is.client is.there in
-          let begins = upto_begins entry.author script is in
+          let begins = upto_begins entry.author is.client is.there in
           let here = in_first played.upto begins.0 front back entry (begins.1 ∙ at)
-          (λ f b e. none_of entry.author begins.0 f b entry (rest_has_none entry.author played.upto begins.0 history (sym begins.1) (same_own entry.author script is)) e refl) in
+          (λ f b e. none_of entry.author begins.0 f b entry (none_later entry.author is.client is.there) e refl) in
           let ran : Runs entry.author script.lines (map seen_entry front ++ seen_entry entry ∷ map seen_entry here.back) =
           subst (Runs entry.author script.lines) (ap (map seen_entry) here.whole ∙ map-append seen_entry front (entry ∷ here.back))
           (subst (λ (s : Script). Runs entry.author s.lines (map seen_entry played.upto)) is.plays played.runs) in
@@ -250,7 +255,7 @@ module _ {B : Type 0} (answer_of : Sources → Call → Answer) (problems_of : S
           by false e =
               let below : entry.author < length scripts + 2 = below_of entry.author (length scripts + 2) (sym (ap (λ b. b || nat_lt entry.author (length scripts + 2)) e) ∙ made) in
               elim (slice_get_cases scripts entry.author).1 [
-                | inl (script, within, there, read) ↦ clients script there
+                | inl (script, within, there, read) ↦ client_entry script there
                 | inr (past, none) ↦ last past below
               ]
 
@@ -302,7 +307,7 @@ module _ {B : Type 0} (answer_of : Sources → Call → Answer) (problems_of : S
             runs = subst (λ (o : Script). Runs c o.lines (map seen_entry played.upto)) s.is.plays played.runs;
             ended = subst (λ (o : Script). runs.HasEnded c o.lines (map seen_entry played.upto)) s.is.plays
                 (subst (λ (o : Option (List Answer)). IfSome o (λ answers. runs.HasEnded c s.is.client.script.lines (map seen_entry played.upto))) given.1 played.ended);
-            later = upto_later c script s.is;
+            later = own_later c s.is.client s.is.there;
           })
 
       pub all_played : AllPlayed scripts seen_at (map seen_entry history)

@@ -30,6 +30,12 @@ use Rattle.ask_desk.specs.Answers.{answer_of as kept_answer, found_answer}
 use Rattle.session_threads.specs.Sessions.{ticket_in, tickets_of, answers_to, rows_from}
 use Rattle.std.proofs.Common.{append_assoc, append-nil}
 
+-- each settling has its reply for an answer
+abbrev pub AreAnswered : (Sources → Call → Answer) → List Entry → List Entry → Type 0
+AreAnswered answer_of before [] = Unit {0}
+AreAnswered answer_of before (entry ∷ entries) =
+    ((ticket : ℕ) (m : Mark) → entry.event ≡ Settle ticket m → found_answer entry.found ≡ Some (reply answer_of (journal_of before) ticket m)) × AreAnswered answer_of (before ++ entry ∷ []) entries
+
 -- ---- a ticket is settled once, with its reply
 
 module _ (answer_of : Sources → Call → Answer) (t : ℕ) where
@@ -55,39 +61,35 @@ module _ (answer_of : Sources → Call → Answer) (t : ℕ) where
           by false e = refl
       one (Checked file) may = refl
 
-  -- each settling has its reply for an answer
-  abbrev pub AreAnswered : List Entry → List Entry → Type 0
-  AreAnswered before [] = Unit {0}
-  AreAnswered before (entry ∷ entries) =
-      ((ticket : ℕ) (m : Mark) → entry.event ≡ Settle ticket m → found_answer entry.found ≡ Some (reply answer_of (journal_of before) ticket m)) × AreAnswered (before ++ entry ∷ []) entries
-
-  kept_from : (before entries : List Entry) → IsTrue (is_legal (journal_of before ++ journal_of entries)) → AreAnswered before entries
+  kept_from : (before entries : List Entry) → IsTrue (is_legal (journal_of before ++ journal_of entries)) → AreAnswered answer_of before entries
       → walk (reply_step answer_of t) None (journal_of before) (journal_of entries) ≡ kept_answer entries t
   kept_from before [] legal right = refl
-  kept_from before (entry ∷ entries) legal right = by entry.event refl (settles t entry.event) refl
+  kept_from before (entry ∷ entries) legal right = by entry.event refl (settles t entry.event) refl (kept_from (before ++ entry ∷ []) entries (legal' legal) right.1)
     where
-      legal' : IsTrue (is_legal (journal_of (before ++ entry ∷ []) ++ journal_of entries))
-      legal' =
-          subst (λ js. IsTrue (is_legal js)) (sym (append_assoc (journal_of before) (entry.event ∷ []) (journal_of entries)) ∙ ap (λ js. js ++ journal_of entries) (sym (journal_of-append before (entry ∷ [])))) legal
+      legal' : IsTrue (is_legal (journal_of before ++ journal_of (entry ∷ entries))) → IsTrue (is_legal (journal_of (before ++ entry ∷ []) ++ journal_of entries))
+      legal' h =
+          subst (λ js. IsTrue (is_legal js)) (sym (append_assoc (journal_of before) (entry.event ∷ []) (journal_of entries)) ∙ ap (λ js. js ++ journal_of entries) (sym (journal_of-append before (entry ∷ [])))) h
 
       -- it does not settle the ticket
-      skipped : (e : Event) → entry.event ≡ e → settles t e ≡ false → reply_step answer_of t (journal_of before) None e ≡ None
+      skipped : walk (reply_step answer_of t) None (journal_of (before ++ entry ∷ [])) (journal_of entries) ≡ kept_answer entries t
+          → (e : Event) → entry.event ≡ e → settles t e ≡ false → reply_step answer_of t (journal_of before) None e ≡ None
           → walk (reply_step answer_of t) None (journal_of before) (journal_of (entry ∷ entries)) ≡ kept_answer (entry ∷ entries) t
-      skipped e is no none =
+      skipped rest e is no none =
           ap (λ (s : Option Answer). walk (reply_step answer_of t) s (journal_of before ++ entry.event ∷ []) (journal_of entries)) (ap (reply_step answer_of t (journal_of before) None) is ∙ none)
           ∙ ap (λ js. walk (reply_step answer_of t) None js (journal_of entries)) (sym (journal_of-append before (entry ∷ [])))
-          ∙ kept_from (before ++ entry ∷ []) entries legal' right.1
+          ∙ rest
           ∙ ap (λ b. cond b (found_answer entry.found) (kept_answer entries t)) (sym (ap (settles t) is ∙ no))
 
-      by : (e : Event) → entry.event ≡ e → (b : Bool) → settles t entry.event ≡ b → walk (reply_step answer_of t) None (journal_of before) (journal_of (entry ∷ entries)) ≡ kept_answer (entry ∷ entries) t
-      by (Accept ticket client tag call) is b k = skipped (Accept ticket client tag call) is refl refl
-      by (Cancel ticket) is b k = skipped (Cancel ticket) is refl refl
-      by Close is b k = skipped Close is refl refl
-      by (Checked file) is b k = skipped (Checked file) is refl refl
-      by (Settle ticket m) is false k =
+      by : (e : Event) → entry.event ≡ e → (b : Bool) → settles t entry.event ≡ b → walk (reply_step answer_of t) None (journal_of (before ++ entry ∷ [])) (journal_of entries) ≡ kept_answer entries t
+          → walk (reply_step answer_of t) None (journal_of before) (journal_of (entry ∷ entries)) ≡ kept_answer (entry ∷ entries) t
+      by (Accept ticket client tag call) is b k rest = skipped rest (Accept ticket client tag call) is refl refl
+      by (Cancel ticket) is b k rest = skipped rest (Cancel ticket) is refl refl
+      by Close is b k rest = skipped rest Close is refl refl
+      by (Checked file) is b k rest = skipped rest (Checked file) is refl refl
+      by (Settle ticket m) is false k rest =
           let no : (ticket == t) ≡ false = ap (settles t) (sym is) ∙ k in
-          skipped (Settle ticket m) is no (ap (λ c. cond c (Some (reply answer_of (journal_of before) t m)) None) no)
-      by (Settle ticket m) is true k =
+          skipped rest (Settle ticket m) is no (ap (λ c. cond c (Some (reply answer_of (journal_of before) t m)) None) no)
+      by (Settle ticket m) is true k rest =
           let yes : (ticket == t) ≡ true = ap (settles t) (sym is) ∙ k in
           let same : ticket ≡ t = eqb-true ticket t yes in
           let settled : is_settled (journal_of before ++ entry.event ∷ []) t ≡ true = list_any-push (settles t) (journal_of before) entry.event ∙ ap (λ c. is_settled (journal_of before) t || c) k ∙ or_true (is_settled (journal_of before) t) in
@@ -103,7 +105,7 @@ module _ (answer_of : Sources → Call → Answer) (t : ℕ) where
           or_true true = refl
           or_true false = refl
 
-  pub kept_reply : (history : List Entry) → IsTrue (is_legal (journal_of history)) → AreAnswered [] history → kept_answer history t ≡ reply_in answer_of (journal_of history) t
+  pub kept_reply : (history : List Entry) → IsTrue (is_legal (journal_of history)) → AreAnswered answer_of [] history → kept_answer history t ≡ reply_in answer_of (journal_of history) t
   kept_reply history legal right = sym (kept_from [] history legal right)
 
 -- ---- the tickets of a client
@@ -115,14 +117,14 @@ AreTagged n (call ∷ calls) = (call.0 ≡ n) × AreTagged (n + 1) calls
 
 pub lines_tagged : (n : ℕ) (lines : List Line) → AreTagged n (call_lines n lines)
 lines_tagged n [] = tt
-lines_tagged n (line ∷ lines) = by line.order
+lines_tagged n (line ∷ lines) = by line.order (λ m. lines_tagged m lines)
   where
-    by : (o : Order) → AreTagged n (call_under n o ++ call_lines (number_after o n) lines)
-    by (order.Call call) = (refl, lines_tagged (n + 1) lines)
-    by (order.Cancel k) = lines_tagged n lines
-    by order.Close = lines_tagged n lines
-    by (order.Wait k) = lines_tagged n lines
-    by order.Idle = lines_tagged n lines
+    by : (o : Order) → ((m : ℕ) → AreTagged m (call_lines m lines)) → AreTagged n (call_under n o ++ call_lines (number_after o n) lines)
+    by (order.Call call) rest = (refl, rest (n + 1))
+    by (order.Cancel k) rest = rest n
+    by order.Close rest = rest n
+    by (order.Wait k) rest = rest n
+    by order.Idle rest = rest n
 
 -- the ticket of the client's call of a number
 pub ticket_at : (c n : ℕ) (journal : List Event) → AreTagged n (calls_of c journal) → (i : ℕ) → ticket_of journal c (n + i) ≡ slice_get (tickets_of c journal) i
@@ -131,7 +133,7 @@ ticket_at c n (Cancel t ∷ journal) tagged i = ticket_at c n journal tagged i
 ticket_at c n (Close ∷ journal) tagged i = ticket_at c n journal tagged i
 ticket_at c n (Settle t m ∷ journal) tagged i = ticket_at c n journal tagged i
 ticket_at c n (Checked file ∷ journal) tagged i = ticket_at c n journal tagged i
-ticket_at c n (Accept ticket client tag call ∷ journal) tagged i = by (client == c) tagged i
+ticket_at c n (Accept ticket client tag call ∷ journal) tagged i = by (client == c) tagged (λ m. ticket_at c m journal) i
   where
     no_tag : (k j : ℕ) → k ≡ n → (k == (n + suc j)) ≡ false
     no_tag k j e = grind (arith, nat_tests)
@@ -139,14 +141,15 @@ ticket_at c n (Accept ticket client tag call ∷ journal) tagged i = by (client 
     own_tag : (k : ℕ) → k ≡ n → (k == (n + zero)) ≡ true
     own_tag k e = grind (arith, nat_tests)
 
-    by : (b : Bool) → AreTagged n (cond b ((tag, call) ∷ []) [] ++ calls_of c journal) → (i : ℕ)
+    by : (b : Bool) → AreTagged n (cond b ((tag, call) ∷ []) [] ++ calls_of c journal)
+        → ((m : ℕ) → AreTagged m (calls_of c journal) → (j : ℕ) → ticket_of journal c (m + j) ≡ slice_get (tickets_of c journal) j) → (i : ℕ)
         → option_or (cond (b && (tag == (n + i))) (Some ticket) None) (ticket_of journal c (n + i)) ≡ slice_get (cond b (ticket ∷ []) [] ++ tickets_of c journal) i
-    by false h i = ticket_at c n journal h i
-    by true h zero = ap (λ d. option_or (cond d (Some ticket) None) (ticket_of journal c (n + zero))) (own_tag tag h.0)
-    by true h (suc j) =
+    by false h rest i = rest n h i
+    by true h rest zero = ap (λ d. option_or (cond d (Some ticket) None) (ticket_of journal c (n + zero))) (own_tag tag h.0)
+    by true h rest (suc j) =
         ap (λ d. option_or (cond d (Some ticket) None) (ticket_of journal c (n + suc j))) (no_tag tag j h.0)
         ∙ ap (ticket_of journal c) (let e : n + suc j ≡ (n + 1) + j = omega arith in e)
-        ∙ ticket_at c (n + 1) journal h.1 j
+        ∙ rest (n + 1) h.1 j
 
 pub tickets_counted : (c : ℕ) (journal : List Event) → length (tickets_of c journal) ≡ length (calls_of c journal)
 tickets_counted c [] = refl
@@ -154,11 +157,11 @@ tickets_counted c (Cancel t ∷ journal) = tickets_counted c journal
 tickets_counted c (Close ∷ journal) = tickets_counted c journal
 tickets_counted c (Settle t m ∷ journal) = tickets_counted c journal
 tickets_counted c (Checked file ∷ journal) = tickets_counted c journal
-tickets_counted c (Accept ticket client tag call ∷ journal) = by (client == c)
+tickets_counted c (Accept ticket client tag call ∷ journal) = by (client == c) (tickets_counted c journal)
   where
-    by : (b : Bool) → length (cond b (ticket ∷ []) [] ++ tickets_of c journal) ≡ length (cond b ((tag, call) ∷ []) [] ++ calls_of c journal)
-    by true = ap suc (tickets_counted c journal)
-    by false = tickets_counted c journal
+    by : (b : Bool) → length (tickets_of c journal) ≡ length (calls_of c journal) → length (cond b (ticket ∷ []) [] ++ tickets_of c journal) ≡ length (cond b ((tag, call) ∷ []) [] ++ calls_of c journal)
+    by true rest = ap suc rest
+    by false rest = rest
 
 -- ---- rows
 

@@ -1,5 +1,5 @@
 -- Where an element of a list stands.
-use Rattle.std.proofs.Common.{◌≡◌, ℕ, zero, suc, ◌+◌, ◌<◌, Bool, true, false, true≢false, ◌==◌, cond, List, [], ◌∷◌, ◌++◌, map, filter, length, slice_get, Option, Some, None, refl, sym, ap, ◌∙◌, subst, arith, append-nil}
+use Rattle.std.proofs.Common.{◌≡◌, ℕ, zero, suc, ◌+◌, ◌<◌, Bool, true, false, true≢false, ◌==◌, cond, List, [], ◌∷◌, ◌++◌, map, filter, length, slice_get, Option, Some, None, refl, sym, ap, ◌∙◌, subst, arith, append-nil, length-append}
 use mathlib.Core.List.{IsPrefix}
 use Rattle.std.proofs.lemmas.Bool.{eq-eqb}
 use Rattle.std.proofs.lemmas.List.Elements.{filter-append}
@@ -93,11 +93,7 @@ first_has_none n front back whole is same = by (entries_by n front) (sym same �
   where
     by : (xs : List Entry) → entries_by n back ≡ xs ++ entries_by n back → xs ≡ []
     by [] h = refl
-    by (x ∷ xs) h = absurd (longer (length (entries_by n back)) (length xs) (ap length h ∙ len (x ∷ xs) (entries_by n back)))
+    by (x ∷ xs) h = absurd (longer (length (entries_by n back)) (length xs) (ap length h ∙ length-append (x ∷ xs) (entries_by n back)))
       where
-        len : (ys zs : List Entry) → length (ys ++ zs) ≡ length ys + length zs
-        len [] zs = refl
-        len (y ∷ ys) zs = let e = len ys zs in omega (arith, e)
-
         longer : (a b : ℕ) → a ≡ suc b + a → ⊥
         longer a b e = omega (arith, e)

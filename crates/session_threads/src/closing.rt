@@ -2,7 +2,7 @@
 ghost use Rattle.std.specs.Prelude.{◌≡◌, length, IfSome};
 ghost use Rattle.std.specs.List.{AllZip};
 ghost use Rattle.session_threads.specs.Passes.{IsNew, Meeting};
-ghost use Rattle.session_threads.specs.Clients.{AreReady, Each, HasPlayed, IsMet, HasMet, scripts_played, scripts_to_play};
+ghost use Rattle.session_threads.specs.Clients.{AreReady, Each, HasPlayed, IsMet, HaveMet, scripts_played, scripts_to_play};
 ghost use Rattle.session_threads.specs.Ended.{HaveEnded};
 
 use crate::clients::{Client, Played, play_all};
@@ -22,7 +22,7 @@ pub(crate) struct Ended<B: Room> {
 
 // A pass and that of a client then know what either has seen.
 pub(crate) fn meet_one<B: Room>(desk: &Desk<B>, pass: &mut Pass<B>, client: &mut Played<B>)
-    ensures { HasMet pass.old pass.new client.old client.new }
+    ensures { HaveMet pass.old pass.new client.old client.new }
 {
     desk.meet(pass, &mut client.pass);
 }

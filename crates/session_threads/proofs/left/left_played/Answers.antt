@@ -1,0 +1,8 @@
+use Rattle.session_threads.proofs.Leaving.{left_is_played, told_of, rose_if_played}
+use Rattle.session_threads.proofs.left.left_played.Goals as goal
+
+pub returns-clause-left : goal.returns-clause-left
+returns-clause-left g c = λ scripts served all. record {
+  session = left_is_played g.N.Engine.answer_of g.N.Engine.problems_of scripts c.args.ended _ _ _ _ _ _ _ _ served all ? ? _ ? _ ? ?;
+  told = told_of g.N.Engine.answer_of g.N.Engine.problems_of _ _ _ _ _ _ served ? ? _ ? ?;
+}
