@@ -42,7 +42,7 @@ module _ (answer_of : Sources → Call → Answer) (problems_of : Sources → By
       by Close m r = none (entry.author == engine_number)
       by (Settle t mark) m r = none (entry.author == engine_number)
       by (Checked file) m r =
-          (λ i. acc ++ finding_of (Checked file) (found_problems (r (eqb-true entry.author engine_number m) (~ i))))
+          ap (λ (found : Found). acc ++ finding_of (Checked file) (found_problems found)) (sym (r (eqb-true entry.author engine_number m)))
           ∙ ap (λ b. acc ++ cond b (finding_of (Checked file) (found_problems entry.found)) []) (sym m)
 
   from_here : (before entries : List Entry) (acc : List Finding) (closed : Bool) → IsTrue (is_rightful closed entries) → AreRight answer_of problems_of before entries

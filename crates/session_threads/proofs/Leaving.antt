@@ -1,5 +1,5 @@
 -- What is left of a session once its passes have met.
-use Rattle.std.proofs.Common.{◌≡◌, ℕ, zero, suc, ◌+◌, ◌<◌, Bool, true, false, ◌==◌, cond, IsTrue, List, [], ◌∷◌, ◌++◌, map, length, slice_get, Option, Some, None, refl, sym, ap, ◌∙◌, subst, arith}
+use Rattle.std.proofs.Common.{◌≡◌, ℕ, zero, suc, ◌+◌, ◌<◌, Bool, true, false, ◌==◌, cond, IsTrue, List, [], ◌∷◌, ◌++◌, map, length, slice_get, Option, Some, None, refl, sym, ap, ◌∙◌, subst, arith, Vec, Global}
 use mathlib.Core.List.{IsPrefix}
 use Rattle.std.specs.Prelude.{IfSome, option_map}
 use Rattle.std.specs.List.{position_from}
@@ -173,22 +173,22 @@ module _ {B : Type 0} (answer_of : Sources → Call → Answer) (problems_of : S
     came (outcome.Played given rows) is =
         let answered : map Some rows ≡ answers_played clients = is.1 ∙ same_answers closer'.seen last.seen clients others zip in (
           is.0 ∙ same_scripts closer'.seen last.seen clients others zip ∙ scripted,
-          (of_these answer_of problems_of scripts clients all.ended_is.before engine.seen history whole_is rows answered,
-          rows_are_replies answer_of problems_of scripts clients all.ended_is.before engine.seen history whole_is rows answered),
+          of_these answer_of problems_of scripts clients all.ended_is.before engine.seen history whole_is rows answered,
+          rows_are_replies answer_of problems_of scripts clients all.ended_is.before engine.seen history whole_is rows answered,
         )
     came outcome.CutShort is = shut_is.shut
     came outcome.Unbegun is = absurd is
     came outcome.Unopened is = absurd is
 
-  pub comes_played : (became : Outcome) → OutcomeFrom closer'.seen last.seen (option_map (λ (v : _). v.items) ended.clients) became → Comes answer_of scripts became (journal_of history)
+  pub comes_played : (became : Outcome) → OutcomeFrom closer'.seen last.seen (option_map (λ (v : Vec (Played B) Global). v.items) ended.clients) became → Comes answer_of scripts became (journal_of history)
   comes_played became from = by ended.clients all.ended_is.played all.scripted from
     where
-      by : (o : Option _) → IfSome o (λ (v : _). Each (HasPlayed all.ended_is.before) v.items) → IfSome o (λ (v : _). scripts_played v.items ≡ scripts)
-          → OutcomeFrom closer'.seen last.seen (option_map (λ (v : _). v.items) o) became → Comes answer_of scripts became (journal_of history)
+      by : (o : Option (Vec (Played B) Global)) → IfSome o (λ (v : Vec (Played B) Global). Each (HasPlayed all.ended_is.before) v.items) → IfSome o (λ (v : Vec (Played B) Global). scripts_played v.items ≡ scripts)
+          → OutcomeFrom closer'.seen last.seen (option_map (λ (v : Vec (Played B) Global). v.items) o) became → Comes answer_of scripts became (journal_of history)
       by None each scripted is = subst (λ (b : Outcome). Comes answer_of scripts b (journal_of history)) (sym is) shut_is.shut
-      by (Some v) each scripted (others, (zip, is)) = came v.items each scripted others zip became is
+      by (Some v) each scripted (others, zip, is) = came v.items each scripted others zip became is
 
-  pub left_is_played : (became : Outcome) → OutcomeFrom closer'.seen last.seen (option_map (λ (v : _). v.items) ended.clients) became
+  pub left_is_played : (became : Outcome) → OutcomeFrom closer'.seen last.seen (option_map (λ (v : Vec (Played B) Global). v.items) ended.clients) became
       → (journal : List Event) → IsPrefix (journal_of met.seen) journal → IsTrue (is_legal journal) → IsSession answer_of problems_of scripts became journal found
   left_is_played became from journal begins legal =
       session_is answer_of problems_of (length scripts + 2) engine ended.closing met closer found served shut_is meets journal begins legal scripts became (comes_played became from)
@@ -200,7 +200,7 @@ rose_if_played first last None became is before now = subst (λ (b : Outcome). R
 rose_if_played first last (Some clients) (outcome.Played scripts answers) is before now = tt
 rose_if_played first last (Some clients) outcome.CutShort is before now = tt
 rose_if_played first last (Some clients) outcome.Unopened is before now = tt
-rose_if_played first last (Some clients) outcome.Unbegun is before now = absurd is.2.1
+rose_if_played first last (Some clients) outcome.Unbegun is before now = absurd is.2
 
 pub rose_if_unbegun : (index before now : ℕ) → Rose before now → RoseIfUnbegun (outcome_at index) before now
 rose_if_unbegun index before now rose = by (index == 0)
@@ -212,24 +212,24 @@ rose_if_unbegun index before now rose = by (index == 0)
 -- ---- a session that no client began
 
 -- the shutdown stands first, where it has this journal index, and then it stands alone
+no_first : (n : ℕ) (events : List Event) → position_from is_close (suc n) events ≡ Some 0 → ⊥
+no_first n [] k = cc
+no_first n (e ∷ events) k = at (is_close e) (no_first (suc n) events) k
+  where
+    at : (b : Bool) → (position_from is_close (suc (suc n)) events ≡ Some 0 → ⊥) → cond b (Some (suc n)) (position_from is_close (suc n + 1) events) ≡ Some 0 → ⊥
+    at true rest j = cc
+    at false rest j = rest (subst (λ m. position_from is_close m events ≡ Some 0) (let e : suc n + 1 ≡ suc (suc n) = omega arith in e) j)
+
 first_close : (journal : List Event) → close_index journal ≡ Some 0 → (rest : List Event) × (journal ≡ Close ∷ rest)
 first_close [] h = cc
 first_close (event ∷ journal) h = by event h
   where
-    later : (n : ℕ) (events : List Event) → position_from is_close (suc n) events ≡ Some 0 → ⊥
-    later n [] k = cc
-    later n (e ∷ events) k = at (is_close e) k
-      where
-        at : (b : Bool) → cond b (Some (suc n)) (position_from is_close (suc n + 1) events) ≡ Some 0 → ⊥
-        at true j = cc
-        at false j = later (suc n) events (subst (λ m. position_from is_close m events ≡ Some 0) (let e : suc n + 1 ≡ suc (suc n) = omega arith in e) j)
-
     by : (e : Event) → position_from is_close 0 (e ∷ journal) ≡ Some 0 → (rest : List Event) × (e ∷ journal ≡ Close ∷ rest)
     by Close k = (journal, refl)
-    by (Accept t client tag call) k = absurd (later 0 journal k)
-    by (Cancel t) k = absurd (later 0 journal k)
-    by (Settle t m) k = absurd (later 0 journal k)
-    by (Checked file) k = absurd (later 0 journal k)
+    by (Accept t client tag call) k = absurd (no_first 0 journal k)
+    by (Cancel t) k = absurd (no_first 0 journal k)
+    by (Settle t m) k = absurd (no_first 0 journal k)
+    by (Checked file) k = absurd (no_first 0 journal k)
 
 pub close_alone : (journal : List Event) → IsTrue (is_legal journal) → close_index journal ≡ Some 0 → journal ≡ Close ∷ []
 close_alone journal legal h =

@@ -152,7 +152,7 @@ module _ {B : Type 0} (answer_of : Sources → Call → Answer) (problems_of : S
         by None e k = cc
         by (Some client) e k = let same : client.script ≡ script = cc in record { client = client; there = e; plays = same }
 
-    abbrev played_by : (c : ℕ) (script : Script) → IsClient c script → HasPlayed before c _
+    abbrev played_by : (c : ℕ) (script : Script) → IsClient c script → HasPlayed before c is.client
     played_by c script is = whole.played c is.client is.there
 
     -- what a client had seen at the end of its script begins the history, and nothing of it stands behind

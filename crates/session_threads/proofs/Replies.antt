@@ -74,11 +74,11 @@ module _ (answer_of : Sources → Call → Answer) (t : ℕ) where
       skipped : walk (reply_step answer_of t) None (journal_of (before ++ entry ∷ [])) (journal_of entries) ≡ kept_answer entries t
           → (e : Event) → entry.event ≡ e → settles t e ≡ false → reply_step answer_of t (journal_of before) None e ≡ None
           → walk (reply_step answer_of t) None (journal_of before) (journal_of (entry ∷ entries)) ≡ kept_answer (entry ∷ entries) t
-      skipped rest e is no none =
+      skipped rest e is differs none =
           ap (λ (s : Option Answer). walk (reply_step answer_of t) s (journal_of before ++ entry.event ∷ []) (journal_of entries)) (ap (reply_step answer_of t (journal_of before) None) is ∙ none)
           ∙ ap (λ js. walk (reply_step answer_of t) None js (journal_of entries)) (sym (journal_of-append before (entry ∷ [])))
           ∙ rest
-          ∙ ap (λ b. cond b (found_answer entry.found) (kept_answer entries t)) (sym (ap (settles t) is ∙ no))
+          ∙ ap (λ b. cond b (found_answer entry.found) (kept_answer entries t)) (sym (ap (settles t) is ∙ differs))
 
       by : (e : Event) → entry.event ≡ e → (b : Bool) → settles t entry.event ≡ b → walk (reply_step answer_of t) None (journal_of (before ++ entry ∷ [])) (journal_of entries) ≡ kept_answer entries t
           → walk (reply_step answer_of t) None (journal_of before) (journal_of (entry ∷ entries)) ≡ kept_answer (entry ∷ entries) t
@@ -87,8 +87,8 @@ module _ (answer_of : Sources → Call → Answer) (t : ℕ) where
       by Close is b k rest = skipped rest Close is refl refl
       by (Checked file) is b k rest = skipped rest (Checked file) is refl refl
       by (Settle ticket m) is false k rest =
-          let no : (ticket == t) ≡ false = ap (settles t) (sym is) ∙ k in
-          skipped rest (Settle ticket m) is no (ap (λ c. cond c (Some (reply answer_of (journal_of before) t m)) None) no)
+          let differs : (ticket == t) ≡ false = ap (settles t) (sym is) ∙ k in
+          skipped rest (Settle ticket m) is differs (ap (λ c. cond c (Some (reply answer_of (journal_of before) t m)) None) differs)
       by (Settle ticket m) is true k rest =
           let yes : (ticket == t) ≡ true = ap (settles t) (sym is) ∙ k in
           let same : ticket ≡ t = eqb-true ticket t yes in

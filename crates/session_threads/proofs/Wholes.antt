@@ -109,7 +109,7 @@ module _ {B : Type 0} (answer_of : Sources → Call → Answer) (problems_of : S
   -- ---- a row
 
   module _ (c : ℕ) (row : List Answer) (has : HasRow all c row) where
-    abbrev one : HasPlayed before c _
+    abbrev one : HasPlayed before c has.client
     one = whole.played c has.client has.there
 
     abbrev script : Script

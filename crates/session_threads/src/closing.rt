@@ -30,7 +30,7 @@ pub(crate) fn meet_one<B: Room>(desk: &Desk<B>, pass: &mut Pass<B>, client: &mut
 /// A pass meets that of each client, and then knows what each has seen.
 pub(crate) fn meet_all<B: Room>(desk: &Desk<B>, pass: &mut Pass<B>, clients: &mut Vec<Played<B>>)
     ensures pass { Meeting pass.old pass.new }
-    ensures clients { AllZip (IsMet pass.new.seen) clients.old.items clients.new.items }
+    ensures clients { AllZip (IsMet pass.old.seen pass.new.seen) clients.old.items clients.new.items }
 {
     for client in clients.iter_mut() {
         meet_one(desk, pass, client);
