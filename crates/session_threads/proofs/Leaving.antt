@@ -1,5 +1,5 @@
 -- What is left of a session once its passes have met.
-use Rattle.std.proofs.Common.{◌≡◌, ℕ, zero, suc, ◌+◌, ◌<◌, Bool, true, false, ◌==◌, cond, IsTrue, List, [], ◌∷◌, ◌++◌, map, length, slice_get, Option, Some, None, refl, sym, ap, ◌∙◌, subst, arith, Vec, Global}
+use Rattle.std.proofs.Common.{◌≡◌, ℕ, zero, suc, ◌+◌, ◌<◌, Bool, true, false, ◌==◌, cond, IsTrue, List, [], ◌∷◌, ◌++◌, map, length, slice_get, Option, Some, None, is_some, refl, sym, ap, ◌∙◌, subst, arith, Vec, Global}
 use mathlib.Core.List.{IsPrefix}
 use Rattle.std.specs.Prelude.{IfSome, option_map}
 use Rattle.std.specs.List.{position_from}
@@ -16,6 +16,9 @@ use Rattle.ask_history.specs.declared.events.Event.{Event}
 use Rattle.ask_history.specs.declared.events.Event.TheVariants.{Accept, Cancel, Close, Settle, Checked}
 use Rattle.work_queue.specs.Indexes.{close_index}
 use Rattle.ask_desk.specs.Answers.{closing}
+use Rattle.ask_desk.specs.Facts.{IsPass}
+use Rattle.ask_desk.specs.Passes.{Closes}
+use Rattle.work_queue.proofs.EventIndexes.{list_any-index_of}
 use Rattle.ask_history.specs.declared.script.Script.{Script}
 use Rattle.report_hub.specs.Telling.{Finding}
 use Rattle.counting_word.specs.declared.view.Entry.{Entry}
@@ -243,3 +246,14 @@ comes_unbegun answer_of scripts spare index at = by (index == 0) refl
     by : (b : Bool) → (index == 0) ≡ b → Comes answer_of scripts (cond b outcome.Unbegun outcome.CutShort) (journal_of spare.seen)
     by true e = close_alone (journal_of spare.seen) at.shut.knows.legal (at.index_is ∙ ap Some (eqb-true index 0 e))
     by false e = at.shut.shut
+
+-- ---- a pass shuts the session down
+
+closed_at : (journal : List Event) (index : ℕ) → close_index journal ≡ Some index → is_closed journal ≡ true
+closed_at journal index h = list_any-index_of is_close journal ∙ ap is_some h
+
+pub shut_at : (old new : View) (index : ℕ) → Closes old new index → (number : ℕ) → IsPass new number → ShutAt new index
+shut_at old new index closes number is = record {
+  shut = record { knows = is.knows; shut = closed_at (journal_of new.seen) index closes.index; settled = closes.settled };
+  index_is = closes.index;
+}

@@ -152,7 +152,7 @@ module _ {B : Type 0} (answer_of : Sources → Call → Answer) (problems_of : S
         by None e k = cc
         by (Some client) e k = let same : client.script ≡ script = cc in record { client = client; there = e; plays = same }
 
-    abbrev played_by : (c : ℕ) (script : Script) → IsClient c script → HasPlayed before c is.client
+    abbrev played_by : (c : ℕ) (script : Script) (is : IsClient c script) → HasPlayed before c is.client
     played_by c script is = whole.played c is.client is.there
 
     -- what a client had seen at the end of its script begins the history, and nothing of it stands behind
@@ -179,11 +179,11 @@ module _ {B : Type 0} (answer_of : Sources → Call → Answer) (problems_of : S
 
     -- ---- what each had seen, by its number
 
-    seen_by : (c : ℕ) (o : Option Script) → slice_get scripts c ≡ o → List Entry
+    abbrev seen_by : (c : ℕ) (o : Option Script) → slice_get scripts c ≡ o → List Entry
     seen_by c None e = []
     seen_by c (Some script) e = map seen_entry (played_by c script (client_of c script e)).upto
 
-    pub seen_at : ℕ → List Entry
+    abbrev pub seen_at : ℕ → List Entry
     seen_at c = seen_by c (slice_get scripts c) refl
 
     -- it is what a client's pass had seen at the end of its script
