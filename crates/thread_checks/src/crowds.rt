@@ -37,7 +37,7 @@ fn ten_runs<R: Abort + AllocGlobal + Threads + Wait + Sync>(
     rt: &R,
     first: u64,
 ) -> Result<(), Fail> {
-    for run in 0..1 {
+    for run in 0..10 {
         let scripts = scripts_of(rt.alloc(), first.wrapping_add(run))?;
         let _left = agree(rt, &scripts, &NONE)?;
     }
@@ -47,4 +47,49 @@ fn ten_runs<R: Abort + AllocGlobal + Threads + Wait + Sync>(
 #[test]
 fn runs_from_0(rt: HostRuntime) -> Result<(), Fail> {
     ten_runs(&rt, 0)
+}
+
+#[test]
+fn runs_from_10(rt: HostRuntime) -> Result<(), Fail> {
+    ten_runs(&rt, 10)
+}
+
+#[test]
+fn runs_from_20(rt: HostRuntime) -> Result<(), Fail> {
+    ten_runs(&rt, 20)
+}
+
+#[test]
+fn runs_from_30(rt: HostRuntime) -> Result<(), Fail> {
+    ten_runs(&rt, 30)
+}
+
+#[test]
+fn runs_from_40(rt: HostRuntime) -> Result<(), Fail> {
+    ten_runs(&rt, 40)
+}
+
+#[test]
+fn runs_from_50(rt: HostRuntime) -> Result<(), Fail> {
+    ten_runs(&rt, 50)
+}
+
+#[test]
+fn runs_from_60(rt: HostRuntime) -> Result<(), Fail> {
+    ten_runs(&rt, 60)
+}
+
+#[test]
+fn runs_from_70(rt: HostRuntime) -> Result<(), Fail> {
+    ten_runs(&rt, 70)
+}
+
+#[test]
+fn runs_from_80(rt: HostRuntime) -> Result<(), Fail> {
+    ten_runs(&rt, 80)
+}
+
+#[test]
+fn runs_from_90(rt: HostRuntime) -> Result<(), Fail> {
+    ten_runs(&rt, 90)
 }

@@ -19,7 +19,7 @@ struct Case {
     stray: Option<usize>,
 }
 
-fn rows(alloc: Global, scripts: &[&[Line]]) -> Result<Vec<Vec<Line>>, NoMemory> {
+pub fn rows(alloc: Global, scripts: &[&[Line]]) -> Result<Vec<Vec<Line>>, NoMemory> {
     let mut rows = Vec::new(alloc);
     for script in scripts {
         rows.push(script.to_vec(alloc)?)?;

@@ -2,9 +2,13 @@
 #![tactic(auto)]
 
 #[cfg(test)]
+mod contents;
+#[cfg(test)]
 mod crowds;
 #[cfg(test)]
 mod drawn;
+#[cfg(test)]
+mod held;
 #[cfg(test)]
 mod judge;
 #[cfg(test)]
@@ -14,7 +18,15 @@ mod lines;
 #[cfg(test)]
 mod listener;
 #[cfg(test)]
+mod paced;
+#[cfg(test)]
+mod poor;
+#[cfg(test)]
+mod refusals;
+#[cfg(test)]
 mod runs;
+#[cfg(test)]
+mod sessions;
 #[cfg(test)]
 mod sources;
 #[cfg(test)]

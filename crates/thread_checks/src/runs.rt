@@ -115,8 +115,8 @@ pub fn files_of(alloc: Global, failing: &Failing) -> Result<MemoryFiles, NoMemor
     Ok(files)
 }
 
-// The words of a run of these scripts, each of which gets a file of its own.
-fn clients_of(
+/// The words of a run of these scripts, each of which gets a file of its own.
+pub fn clients_of(
     alloc: Global,
     files: &mut MemoryFiles,
     scripts: &[Vec<Line>],
