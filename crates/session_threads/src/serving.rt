@@ -18,11 +18,13 @@ use std::sync::Wait;
 
 /// An engine that is lent to a closure: what the closure gives is then known, as it is not where the closure holds the
 /// reference itself.
+#[derive(Drop)]
 pub(crate) struct LentEngine<'a, N> {
     pub(crate) engine: &'a mut N,
 }
 
 /// A gate that is lent to a closure.
+#[derive(Drop)]
 pub(crate) struct LentGate<'a, G> {
     pub(crate) gate: &'a mut G,
 }
