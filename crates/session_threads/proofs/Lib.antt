@@ -1,3 +1,4 @@
+pub mod Ready
 pub mod Full
 pub mod Findings
 pub mod Splits
