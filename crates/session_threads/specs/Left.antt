@@ -32,8 +32,9 @@ OutcomeFrom first last None became = became ≡ outcome.CutShort
 abbrev pub outcome_at : ℕ → Outcome
 outcome_at index = if index == 0 then outcome.Unbegun else outcome.CutShort
 
--- What is left of a session, of which the engine's pass had seen this much: it is what the session comes to, and what was told of
--- its checks is what they find.
-pub record IsLeft (answer_of : Sources → Call → Answer) (problems_of : Sources → Bytes → List Problem) (scripts : List Script) (seen : List Entry) (left : Left) : Type 0 where
-  pub session : IsSession answer_of problems_of scripts left.outcome left.journal.events left.found
-  pub told : findings_in seen ≡ findings problems_of left.journal.events
+module _ {Kind : Type 0} {At : Kind → Type 0} where
+  -- What is left of a session, of which the engine's pass had seen this much: it is what the session comes to, and what was told
+  -- of its checks is what they find.
+  pub record IsLeft (answer_of : Sources → Call → Answer) (problems_of : Sources → Bytes → List Problem) (scripts : List Script) (seen : List Entry) (left : Left Kind At) : Type 0 where
+    pub session : IsSession answer_of problems_of scripts left.outcome left.journal.events left.found
+    pub told : findings_in seen ≡ findings problems_of left.journal.events

@@ -44,11 +44,12 @@ module _ {B : Type 0} where
   IsClientsPart scripts (Ended ended) spare = AllEnded scripts ended spare
   IsClientsPart scripts (Unbegun index) spare = ShutAt spare index
 
-  pub record AreParts (answer_of : Sources → Call → Answer) (problems_of : Sources → Bytes → List Problem) (scripts : List Script) (parts : Parts B) : Type 0 where
-    pub served : HasServed answer_of problems_of (length scripts + 2) parts.served.pass.pass parts.served.found
-    pub clients : IsClientsPart scripts parts.clients parts.spare
-
   -- The clients did not begin only where a thread was refused.
   abbrev pub RoseIfRefused : ClientsPart B → ℕ → ℕ → Type 0
   RoseIfRefused (Ended ended) before now = ⊤
   RoseIfRefused (Unbegun index) before now = Rose before now
+
+module _ {B : Type 0} {Kind : Type 0} {At : Kind → Type 0} where
+  pub record AreParts (answer_of : Sources → Call → Answer) (problems_of : Sources → Bytes → List Problem) (scripts : List Script) (parts : Parts B Kind At) : Type 0 where
+    pub served : HasServed answer_of problems_of (length scripts + 2) parts.served.pass.pass parts.served.found
+    pub clients : IsClientsPart scripts parts.clients parts.spare

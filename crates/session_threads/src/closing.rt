@@ -2,7 +2,7 @@
 ghost use Rattle.std.specs.Prelude.{◌≡◌, length, IfSome};
 ghost use Rattle.std.specs.List.{AllZip};
 ghost use Rattle.session_threads.specs.Passes.{IsNew, Meeting};
-ghost use Rattle.session_threads.specs.Clients.{AreReady, Each, HasPlayed, IsMet, HasMet, scripts_played, scripts_to_play};
+ghost use Rattle.session_threads.specs.Clients.{AreReady, Each, HasPlayed, IsMet, HaveMet, scripts_played, scripts_to_play};
 ghost use Rattle.session_threads.specs.Ended.{HaveEnded};
 
 use crate::clients::{Client, Played, play_all};
@@ -22,7 +22,7 @@ pub(crate) struct Ended<B: Room> {
 
 // A pass and that of a client then know what either has seen.
 pub(crate) fn meet_one<B: Room>(desk: &Desk<B>, pass: &mut Pass<B>, client: &mut Played<B>)
-    ensures { HasMet pass.old pass.new client.old client.new }
+    ensures { HaveMet pass.old pass.new client.old client.new }
 {
     desk.meet(pass, &mut client.pass);
 }
@@ -30,7 +30,7 @@ pub(crate) fn meet_one<B: Room>(desk: &Desk<B>, pass: &mut Pass<B>, client: &mut
 /// A pass meets that of each client, and then knows what each has seen.
 pub(crate) fn meet_all<B: Room>(desk: &Desk<B>, pass: &mut Pass<B>, clients: &mut Vec<Played<B>>)
     ensures pass { Meeting pass.old pass.new }
-    ensures clients { AllZip (IsMet pass.new.seen) clients.old.items clients.new.items }
+    ensures clients { AllZip (IsMet pass.old.seen pass.new.seen) clients.old.items clients.new.items }
 {
     for client in clients.iter_mut() {
         meet_one(desk, pass, client);
