@@ -1,7 +1,7 @@
 -- Clients that have played, and passes that meet theirs.
 use Rattle.std.proofs.Common.{◌≡◌, ◌≤◌, ◌<◌, ℕ, zero, suc, ◌+◌, List, [], ◌∷◌, ◌++◌, length, map, take, drop, get_or, set, slice_get, Option, Some, None, IsTrue, is_some, true, refl, sym, ap, ◌∙◌, subst, arith, add-one}
 use mathlib.Core.List.{IsPrefix}
-use Rattle.std.specs.Prelude.{IfSome, unwrap_or}
+use Rattle.std.specs.Prelude.{⊤, IfSome, unwrap_or}
 use Rattle.std.specs.List.{AllZip}
 use Rattle.std.proofs.Math.Seq.{take-append_seam}
 use Rattle.ask_history.specs.Journal.{accepted, is_close, is_closed, is_settled}
@@ -26,6 +26,31 @@ use Rattle.session_threads.specs.Clients.{Each, HasPlayed, IsMet, HaveMet, scrip
 use Rattle.session_threads.specs.Ended.{IsShut, HaveEnded, entries_of}
 use Rattle.session_threads.specs.declared.clients.Played.{Played}
 use Rattle.session_threads.specs.declared.closing.Ended.{Ended}
+
+-- ---- one pass
+
+-- a pass that met nobody
+pub met_itself : (view : View) → Meeting view view
+met_itself view = record { begins = begins_itself view.seen; name = refl; knows = λ known. known }
+
+pub met_then : (old between new : View) → Meeting old between → Meeting between new → Meeting old new
+met_then old between new one other = record {
+  begins = begins-trans old.seen between.seen new.seen one.begins other.begins;
+  name = other.name ∙ one.name;
+  knows = λ known. other.knows (one.knows known);
+}
+
+written_by : (name : Name) (number : ℕ) (events : List Event) → unwrap_or name.number 0 ≡ number → entries_for name events ≡ entries_of number events
+written_by name number [] is = refl
+written_by name number (event ∷ events) is = λ i. record { event = event; author = is i; found = callers_find event } ∷ written_by name number events is i
+
+-- A pass that has shut the session down knows so.
+pub is_shut : (old new : View) (index number : ℕ) → Closes old new index → IsPass new number → IsShut new
+is_shut old new index number closes is = record {
+  knows = is.knows;
+  shut = list_any-index_of is_close (journal_of new.seen) ∙ ap is_some closes.index;
+  settled = closes.settled;
+}
 
 module _ {B : Type 0} where
   -- ---- a client
@@ -65,17 +90,6 @@ module _ {B : Type 0} where
     };
   }
 
-  -- a pass that met nobody
-  pub met_itself : (view : View) → Meeting view view
-  met_itself view = record { begins = begins_itself view.seen; name = refl; knows = λ known. known }
-
-  pub met_then : (old between new : View) → Meeting old between → Meeting between new → Meeting old new
-  met_then old between new one other = record {
-    begins = begins-trans old.seen between.seen new.seen one.begins other.begins;
-    name = other.name ∙ one.name;
-    knows = λ known. other.knows (one.knows known);
-  }
-
   -- ---- a round of meetings
 
   -- Of clients so many met a pass that had seen `first` before the round and has now seen `last`; the others are as they were.
@@ -87,6 +101,7 @@ module _ {B : Type 0} where
   MetBelow first last (suc n) (old ∷ olds) (new ∷ news) = IsMet first last old new × MetBelow first last n olds news
 
   pub none_met : (first last : List Entry) (clients : List (Played B)) → MetBelow first last zero clients clients
+  unfolding MetBelow
   none_met first last [] = tt
   none_met first last (client ∷ clients) = (refl, none_met first last clients)
 
@@ -111,6 +126,7 @@ module _ {B : Type 0} where
   }
 
   still_none : (first last last' : List Entry) (olds news : List (Played B)) → MetBelow first last zero olds news → MetBelow first last' zero olds news
+  unfolding MetBelow
   still_none first last last' [] [] below = tt
   still_none first last last' [] (new ∷ news) below = below
   still_none first last last' (old ∷ olds) [] below = below
@@ -118,8 +134,9 @@ module _ {B : Type 0} where
 
   one_met : (first last last' : List Entry) (n : ℕ) (olds news : List (Played B)) (default client : Played B) → IsPrefix first last → IsPrefix last last' → n < length news
       → MetBelow first last n olds news → IsMet last last' (get_or news n default) client → MetBelow first last' (suc n) olds (set news n client)
+  unfolding MetBelow
   one_met first last last' n olds [] default client begins more within below met = absurd (omega arith)
-  one_met first last last' n [] (new ∷ news) default client begins more within below met = below
+  one_met first last last' n [] (new ∷ news) default client begins more within below met = absurd below
   one_met first last last' zero (old ∷ olds) (new ∷ news) default client begins more within below met = (
     met_sooner first last last' old client begins (subst (λ one. IsMet last last' one client) below.0 met),
     still_none first last last' olds news below.1,
@@ -137,9 +154,10 @@ module _ {B : Type 0} where
       (one_met first view.seen view'.seen n olds news default client begins met.first.begins within below met.second)
 
   all_below : (first last : List Entry) (n : ℕ) (olds news : List (Played B)) → length news ≤ n → MetBelow first last n olds news → AllZip (IsMet first last) olds news
+  unfolding MetBelow
   all_below first last n [] [] past below = tt
-  all_below first last n [] (new ∷ news) past below = below
-  all_below first last n (old ∷ olds) [] past below = below
+  all_below first last n [] (new ∷ news) past below = absurd below
+  all_below first last n (old ∷ olds) [] past below = absurd below
   all_below first last zero (old ∷ olds) (new ∷ news) past below = absurd (omega arith)
   all_below first last (suc n) (old ∷ olds) (new ∷ news) past below = (below.0, all_below first last n olds news (omega arith) below.1)
 
@@ -180,7 +198,10 @@ module _ {B : Type 0} where
       (all_still first last (suc from) olds news met.1 (λ k other there. let after : from + suc k ≡ suc from + k = omega arith in subst (λ j. HasPlayed other.pass.seen j other) after (played (suc k) other there)) n new at)
 
   pub all_have_played : (first last : List Entry) (olds news : List (Played B)) → AllZip (IsMet first last) olds news → Each (λ number played. HasPlayed played.pass.seen number played) olds → Each (HasPlayed last) news
-  all_have_played first last olds news met played number new at = all_still first last 0 olds news met (λ n old there. played n old there) number new at
+  all_have_played first last olds news met played number new at =
+      let same : (n : ℕ) → n ≡ 0 + n = λ n. omega arith in
+      subst (λ k. HasPlayed last k new) (sym (same number))
+      (all_still first last 0 olds news met (λ n old there. subst (λ k. HasPlayed old.pass.seen k old) (same n) (played n old there)) number new at)
 
   pub scripts_stay : (first last : List Entry) (olds news : List (Played B)) → AllZip (IsMet first last) olds news → scripts_played news ≡ scripts_played olds
   scripts_stay first last [] [] met = refl
@@ -189,10 +210,6 @@ module _ {B : Type 0} where
   scripts_stay first last (old ∷ olds) (new ∷ news) met = λ i. met.0.script i ∷ scripts_stay first last olds news met.1 i
 
   -- ---- the shutdown
-
-  written_by : (name : Name) (number : ℕ) (events : List Event) → unwrap_or name.number 0 ≡ number → entries_for name events ≡ entries_of number events
-  written_by name number [] is = refl
-  written_by name number (event ∷ events) is = λ i. record { event = event; author = is i; found = callers_find event } ∷ written_by name number events is i
 
   more_played : (bound bound' : List Entry) (number : ℕ) (played : Played B) → IsPrefix bound bound' → HasPlayed bound number played → HasPlayed bound' number played
   more_played bound bound' number played more has = record {
@@ -207,10 +224,3 @@ module _ {B : Type 0} where
     answered = has.answered;
   }
 
-  -- A pass that has shut the session down knows so.
-  pub is_shut : (old new : View) (index number : ℕ) → Closes old new index → IsPass new number → IsShut new
-  is_shut old new index number closes is = record {
-    knows = is.knows;
-    shut = list_any-index_of is_close (journal_of new.seen) ∙ ap is_some closes.index;
-    settled = closes.settled;
-  }

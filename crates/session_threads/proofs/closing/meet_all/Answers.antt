@@ -3,11 +3,11 @@ use Rattle.session_threads.proofs.Joining.{met_itself, met_then, none_met, one_m
 use Rattle.session_threads.proofs.closing.meet_all.Goals as goal
 
 pub loop-client-init : goal.loop-client-init
-loop-client-init g c = record { pass = met_itself {B = g.row.B.Denot} _; clients = none_met _ _ _ }
+loop-client-init g c = record { pass = met_itself _; clients = none_met _ _ _ }
 
 pub loop-client-preserved : goal.loop-client-preserved
 loop-client-preserved g c = record {
-  pass = met_then {B = g.row.B.Denot} _ _ _ c.loop-client.invariant.pass c.meet_one.ensures.first;
+  pass = met_then _ _ _ c.loop-client.invariant.pass c.meet_one.ensures.first;
   clients = one_more_met _ c.loop-client.pass c.meet_one.new.pass _ _ _ c.client-item.result c.meet_one.new.client c.loop-client.invariant.pass.begins
       (omega (arith, c.loop-client-test.true, c.loop-client.auto.client-items)) c.loop-client.invariant.clients c.meet_one.ensures;
 }
