@@ -1,8 +1,9 @@
 -- Clients that have played, and passes that meet theirs.
-use Rattle.std.proofs.Common.{◌≡◌, ◌≤◌, ◌<◌, ℕ, zero, suc, ◌+◌, List, [], ◌∷◌, ◌++◌, length, map, take, drop, get_or, set, slice_get, Option, Some, None, IsTrue, is_some, true, refl, sym, ap, ◌∙◌, subst, arith, add-one}
+use Rattle.std.proofs.Common.{◌≡◌, ◌≤◌, ◌<◌, ℕ, zero, suc, ◌+◌, List, [], ◌∷◌, ◌++◌, length, map, take, drop, get_or, set, slice_get, Option, Some, None, Result, Ok, Err, IfOk, is_some, refl, sym, ap, ◌∙◌, subst, arith, add-one}
 use mathlib.Core.List.{IsPrefix}
 use Rattle.std.specs.Prelude.{⊤, IfSome, unwrap_or}
 use Rattle.std.specs.List.{AllZip}
+use Rattle.std.specs.Result.{result_ok}
 use Rattle.std.proofs.Math.Seq.{take-append_seam}
 use Rattle.ask_history.specs.Journal.{accepted, is_close, is_closed, is_settled}
 use Rattle.ask_history.specs.declared.answers.Answer.{Answer}
@@ -26,6 +27,12 @@ use Rattle.session_threads.specs.Clients.{Each, HasPlayed, IsMet, HaveMet, scrip
 use Rattle.session_threads.specs.Ended.{IsShut, HaveEnded, entries_of}
 use Rattle.session_threads.specs.declared.clients.Played.{Played}
 use Rattle.session_threads.specs.declared.closing.Ended.{Ended}
+
+-- ---- results
+
+pub if_ok : {A E : Type 0} (P : A → Type 0) (o : Option A) (r : Result A E) → o ≡ result_ok r → IfOk r P → IfSome o P
+if_ok P o (Ok x) is holds = subst (λ z. IfSome z P) (sym is) holds
+if_ok P o (Err e) is holds = subst (λ z. IfSome z P) (sym is) tt
 
 -- ---- one pass
 
