@@ -1,4 +1,5 @@
 pub mod Ready
+pub mod Joining
 pub mod Full
 pub mod Findings
 pub mod Splits

@@ -19,7 +19,7 @@ use crate::left::{Left, left_played, left_unbegun, shut_unbegun};
 use crate::outcome::Outcome;
 use crate::parts::{ClientsPart, Parts};
 use crate::passes::Passes;
-use crate::serving::{LentEngine, LentGate, Served, serve};
+use crate::serving::{Served, serve};
 use ask_desk::Desk;
 use ask_history::{Engine, Journal, Script};
 use counting_word::{Opened, Room};
@@ -111,18 +111,16 @@ fn play_parts<
         engine: pass,
     } = passes;
     let mut spare = spare;
-    let engine = LentEngine { engine };
-    let gate = LentGate { gate };
     let begun = beside(
         spawner,
         rt,
         || -> Served<B>
-            requires { IsEngines pass.pass pass.made pass.made × (N.state engine.engine.now ≡ fresh_state) }
-        { serve(rt, alloc, desk, pass, engine, hub, gate) },
+            requires { IsEngines pass.pass pass.made pass.made × (N.state engine.now ≡ fresh_state) }
+        { serve(rt, alloc, desk, pass, hub, engine, gate) },
         || -> Ended<B>
             requires { AreReady clients.items × IsNew closing (length clients.items) }
-            ensures ended { HaveEnded (length clients.entry.items) result }
-            ensures scripts { IfSome result.clients (λ all. scripts_played all.items ≡ scripts_to_play clients.entry.items) }
+            ensures ended { HaveEnded (length clients.items) result }
+            ensures scripts { IfSome result.clients (λ all. scripts_played all.items ≡ scripts_to_play clients.items) }
         { end_clients(rt, alloc, desk, closing, clients) },
     );
     match begun {
