@@ -36,6 +36,10 @@ pub if_ok : {A E : Type 0} (P : A → Type 0) (o : Option A) (r : Result A E) �
 if_ok P o (Ok x) is holds = subst (λ z. IfSome z P) (sym is) holds
 if_ok P o (Err e) is holds = subst (λ z. IfSome z P) (sym is) tt
 
+pub if_some : {A : Type 0} (P Q : A → Type 0) → ((x : A) → P x → Q x) → (o : Option A) → IfSome o P → IfSome o Q
+if_some P Q then None holds = tt
+if_some P Q then (Some x) holds = then x holds
+
 -- ---- one pass
 
 -- a pass that met nobody
@@ -232,6 +236,23 @@ module _ {B : Type 0} where
     ended = has.ended;
     answered = has.answered;
   }
+
+  -- The closing pass, which was new, has met the clients' passes and then shut the session down.
+  pub have_ended : (new between : View) (ended : Ended B) (index number other : ℕ) → IsNew new number → Meeting new between → Closes between ended.closing index → IsPass ended.closing other
+      → IfSome ended.clients (λ all. Each (HasPlayed between.seen) all.items) → HaveEnded number ended
+  have_ended new between ended index number other is_new meeting closes is played =
+      let named : between.name.number ≡ Some number = ap (λ (n : Name). n.number) meeting.name ∙ is_new.named in
+      let events : List Event = closing (journal_of closes.before) in
+      let entries : entries_for between.name events ≡ entries_of number events = written_by between.name number events (ap (λ o. unwrap_or o 0) named) in
+      let unmade : between.name.own ≡ [] = ap (λ (n : Name). n.own) meeting.name ∙ is_new.unmade in record {
+        before = closes.before;
+        named = closes.writes.moves.number ∙ named;
+        seen = closes.writes.seen ∙ ap (λ es. closes.before ++ es) entries;
+        own = closes.writes.own ∙ ap (λ own. own ++ entries_for between.name events) unmade ∙ entries;
+        shut = is_shut between ended.closing index other closes is;
+        played = if_some (λ all. Each (HasPlayed between.seen) all.items) (λ all. Each (HasPlayed closes.before) all.items)
+            (λ all each n one at. more_played between.seen closes.before n one closes.writes.begins (each n one at)) ended.clients played;
+      }
 
   -- ---- all clients
 
