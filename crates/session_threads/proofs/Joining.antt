@@ -5,6 +5,7 @@ use Rattle.std.specs.Prelude.{⊤, IfSome, unwrap_or}
 use Rattle.std.specs.List.{AllZip}
 use Rattle.std.specs.Result.{result_ok}
 use Rattle.std.proofs.Math.Seq.{take-append_seam}
+use Rattle.std.proofs.lemmas.Option.{slice_get_read}
 use Rattle.ask_history.specs.Journal.{accepted, is_close, is_closed, is_settled}
 use Rattle.ask_history.specs.declared.answers.Answer.{Answer}
 use Rattle.ask_history.specs.declared.events.Event.{Event}
@@ -23,8 +24,9 @@ use Rattle.ask_desk.specs.Facts.{IsPass}
 use Rattle.ask_desk.specs.Passes.{Closes}
 use Rattle.desk_clients.specs.Seen.{seen_entry, seen_state}
 use Rattle.session_threads.specs.Passes.{IsNew, Meeting}
-use Rattle.session_threads.specs.Clients.{Each, HasPlayed, IsMet, HaveMet, scripts_played}
+use Rattle.session_threads.specs.Clients.{Each, IsReady, AreReady, HasPlayed, IsMet, HaveMet, scripts_played, scripts_to_play}
 use Rattle.session_threads.specs.Ended.{IsShut, HaveEnded, entries_of}
+use Rattle.session_threads.specs.declared.clients.Client.{Client}
 use Rattle.session_threads.specs.declared.clients.Played.{Played}
 use Rattle.session_threads.specs.declared.closing.Ended.{Ended}
 
@@ -33,6 +35,10 @@ use Rattle.session_threads.specs.declared.closing.Ended.{Ended}
 pub if_ok : {A E : Type 0} (P : A → Type 0) (o : Option A) (r : Result A E) → o ≡ result_ok r → IfOk r P → IfSome o P
 if_ok P o (Ok x) is holds = subst (λ z. IfSome z P) (sym is) holds
 if_ok P o (Err e) is holds = subst (λ z. IfSome z P) (sym is) tt
+
+pub if_some : {A : Type 0} (P Q : A → Type 0) → ((x : A) → P x → Q x) → (o : Option A) → IfSome o P → IfSome o Q
+if_some P Q then None holds = tt
+if_some P Q then (Some x) holds = then x holds
 
 -- ---- one pass
 
@@ -231,3 +237,59 @@ module _ {B : Type 0} where
     answered = has.answered;
   }
 
+  -- The closing pass, which was new, has met the clients' passes and then shut the session down.
+  pub have_ended : (new between : View) (ended : Ended B) (index number other : ℕ) → IsNew new number → Meeting new between → Closes between ended.closing index → IsPass ended.closing other
+      → IfSome ended.clients (λ all. Each (HasPlayed between.seen) all.items) → HaveEnded number ended
+  have_ended new between ended index number other is_new meeting closes is played =
+      let named : between.name.number ≡ Some number = ap (λ (n : Name). n.number) meeting.name ∙ is_new.named in
+      let events : List Event = closing (journal_of closes.before) in
+      let entries : entries_for between.name events ≡ entries_of number events = written_by between.name number events (ap (λ o. unwrap_or o 0) named) in
+      let unmade : between.name.own ≡ [] = ap (λ (n : Name). n.own) meeting.name ∙ is_new.unmade in record {
+        before = closes.before;
+        named = closes.writes.moves.number ∙ named;
+        seen = closes.writes.seen ∙ ap (λ es. closes.before ++ es) entries;
+        own = closes.writes.own ∙ ap (λ own. own ++ entries_for between.name events) unmade ∙ entries;
+        shut = is_shut between ended.closing index other closes is;
+        played = if_some (λ all. Each (HasPlayed between.seen) all.items) (λ all. Each (HasPlayed closes.before) all.items)
+            (λ all each n one at. more_played between.seen closes.before n one closes.writes.begins (each n one at)) ended.clients played;
+      }
+
+  -- ---- all clients
+
+  -- the one call of a job, where the clients are ready
+  pub ready_at : (clients : List (Client B)) → AreReady clients → (i : ℕ) (client : Client B) → i < length clients → client ≡ get_or clients i client → (number : ℕ) × IsReady number client
+  ready_at clients ready i client within is = (i, ready i client (slice_get_read clients (length clients) i client refl within is))
+
+  -- what playing a client gives
+  pub record Gives (client : Client B) (played : Played B) : Type 0 where
+    pub script : played.script ≡ client.script
+    pub has : (number : ℕ) → client.pass.name.number ≡ Some number → HasPlayed played.pass.seen number played
+
+  pub gives_at : (client client' : Client B) (played played' : Played B) → client ≡ client' → played ≡ played' → Gives client played → Gives client' played'
+  gives_at client client' played played' one other gives = subst (λ c. Gives c played') one (subst (Gives client) other gives)
+
+  -- Each client gave what playing it gives.
+  pub record HaveGiven (clients : List (Client B)) (all : List (Played B)) : Type 0 where
+    pub long : length all ≡ length clients
+    pub each : (i : ℕ) (client : Client B) (played : Played B) → slice_get clients i ≡ Some client → slice_get all i ≡ Some played → Gives client played
+
+  given_behind : (client : Client B) (clients : List (Client B)) (played : Played B) (all : List (Played B)) → HaveGiven (client ∷ clients) (played ∷ all) → HaveGiven clients all
+  given_behind client clients played all given = record { long = let long = given.long in omega (arith, long); each = λ i. given.each (suc i) }
+
+  pub given_scripts : (clients : List (Client B)) (all : List (Played B)) → HaveGiven clients all → scripts_played all ≡ scripts_to_play clients
+  given_scripts [] [] given = refl
+  given_scripts [] (played ∷ all) given = absurd (let long = given.long in omega (arith, long))
+  given_scripts (client ∷ clients) [] given = absurd (let long = given.long in omega (arith, long))
+  given_scripts (client ∷ clients) (played ∷ all) given =
+      λ i. (given.each 0 client played refl refl).script i ∷ given_scripts clients all (given_behind client clients played all given) i
+
+  client_at : (clients : List (Client B)) (all : List (Played B)) (i : ℕ) (played : Played B) → HaveGiven clients all → slice_get all i ≡ Some played → (client : Client B) × (slice_get clients i ≡ Some client)
+  client_at clients [] i played given at = cc
+  client_at [] (one ∷ all) i played given at = absurd (let long = given.long in omega (arith, long))
+  client_at (client ∷ clients) (one ∷ all) zero played given at = (client, refl)
+  client_at (client ∷ clients) (one ∷ all) (suc i) played given at = client_at clients all i played (given_behind client clients one all given) at
+
+  pub given_played : (clients : List (Client B)) (all : List (Played B)) → AreReady clients → HaveGiven clients all → Each (λ number played. HasPlayed played.pass.seen number played) all
+  given_played clients all ready given number played at =
+      let client = client_at clients all number played given at in
+      (given.each number client.0 played client.1 at).has number (ready number client.0 client.1).new.named
