@@ -1,3 +1,6 @@
+pub mod Ready
+pub mod Joining
+pub mod Crossing
 pub mod Full
 pub mod Findings
 pub mod Splits

@@ -35,7 +35,7 @@ pub(crate) fn play_client<B: Room, R: Wait>(
     desk: &Desk<B>,
     client: Client<B>,
 ) -> Played<B>
-    requires ready { IsReady client }
+    requires ready { (number : ℕ) × IsReady number client }
     ensures script { result.script ≡ client.script }
     ensures played { (number : ℕ) → client.pass.name.number ≡ Some number → HasPlayed result.pass.seen number result }
 {
@@ -77,7 +77,7 @@ pub(crate) fn play_all<B: Room + Send + Sync, R: Threads + Wait + Sync>(
         rt,
         clients,
         &|client: Client<B>| -> Played<B>
-            requires { IsReady client }
+            requires { (number : ℕ) × IsReady number client }
             ensures script { result.script ≡ client.script }
             ensures played { (number : ℕ) → client.pass.name.number ≡ Some number → HasPlayed result.pass.seen number result }
         { play_client(rt, alloc, desk, client) },

@@ -16,19 +16,6 @@ use report_hub::Hub;
 use std::alloc::Global;
 use std::sync::Wait;
 
-/// An engine that is lent to a closure: what the closure gives is then known, as it is not where the closure holds the
-/// reference itself.
-#[derive(Drop)]
-pub(crate) struct LentEngine<'a, N> {
-    pub(crate) engine: &'a mut N,
-}
-
-/// A gate that is lent to a closure.
-#[derive(Drop)]
-pub(crate) struct LentGate<'a, G> {
-    pub(crate) gate: &'a mut G,
-}
-
 /// The engine's part of a session that is shut down: its pass, the hub, and what its checks found.
 #[derive(Drop)]
 pub(crate) struct Served<B: Room> {
@@ -43,17 +30,15 @@ pub(crate) fn serve<B: Room, N: Engine, G: Gate, R: Wait>(
     alloc: Global,
     desk: &Desk<B>,
     pass: EnginePass<B>,
-    engine: LentEngine<'_, N>,
     hub: Hub,
-    gate: LentGate<'_, G>,
+    engine: &mut N,
+    gate: &mut G,
 ) -> Served<B>
     requires pass { IsEngines pass.pass pass.made pass.made }
-    requires fresh { N.state engine.engine.now ≡ fresh_state }
+    requires fresh { N.state engine.old ≡ fresh_state }
     ensures served { HasServed N.answer_of N.problems_of pass.made result.pass.pass result.found }
     ensures told { OfEach (IsToldMost (of_box told) (of_box faults) (findings_in result.pass.pass.seen)) (reporters_of hub) (reporters_of result.hub) }
 {
-    let LentEngine { engine } = engine;
-    let LentGate { gate } = gate;
     let mut hub = hub;
     let mut found: Vec<Row<Problem>> = Vec::new(alloc);
     let pass = drive(

@@ -1,23 +1,25 @@
 //! A session of clients, from their scripts to what is left of it.
-ghost use Rattle.std.specs.Prelude.{◌≡◌, ◌≤◌, length, ◌∷◌, [], Some, IfOk, IfErr, ℕ, List};
+ghost use Rattle.std.specs.Prelude.{◌≡◌, ◌≤◌, length, ◌∷◌, [], Some, IfOk, IfErr, IfSome, ℕ, List};
 ghost use Rattle.ask_history.specs.Engine.{fresh_state};
 ghost use Rattle.ask_history.specs.Journal.{findings};
 ghost use Rattle.ask_history.specs.declared.script.Script.{Script as Scripted};
 ghost use Rattle.desk_driver.specs.Drives.{findings_in};
 ghost use Rattle.report_hub.specs.Hub.{reporters_of, of_box, IsToldMost, OfEach};
 ghost use Rattle.work_queue.specs.Refusal.{IsWithin};
-ghost use Rattle.session_threads.specs.Clients.{CanPlayAll};
+ghost use Rattle.session_threads.specs.Clients.{AreReady, CanPlayAll, scripts_played, scripts_to_play};
+ghost use Rattle.session_threads.specs.Ended.{HaveEnded};
 ghost use Rattle.session_threads.specs.Left.{IsLeft};
 ghost use Rattle.session_threads.specs.Parts.{ArePasses, AreParts, RoseIfRefused};
+ghost use Rattle.session_threads.specs.Passes.{IsEngines, IsNew};
 ghost use Rattle.session_threads.specs.Sessions.{IsSession, RoseIfUnbegun};
 ghost use Rattle.session_threads.specs.declared.outcome.Outcome.TheVariants as became;
 
-use crate::closing::end_clients;
+use crate::closing::{Ended, end_clients};
 use crate::left::{Left, left_played, left_unbegun, shut_unbegun};
 use crate::outcome::Outcome;
 use crate::parts::{ClientsPart, Parts};
 use crate::passes::Passes;
-use crate::serving::{LentEngine, LentGate, serve};
+use crate::serving::{Served, serve};
 use ask_desk::Desk;
 use ask_history::{Engine, Journal, Script};
 use counting_word::{Opened, Room};
@@ -78,6 +80,14 @@ fn desk_of<B: Room>(
     Ok((desk, passes))
 }
 
+// Runs a closure.
+fn run<A, F: FnOnce() -> A>(f: F) -> A
+    requires { F.pre f }
+    ensures { F.post f result }
+{
+    f()
+}
+
 // The engine serves beside the clients. Where no thread can be started for them, the spare pass shuts the session down, and
 // then the engine serves alone, and finds it shut down.
 fn play_parts<
@@ -99,7 +109,7 @@ fn play_parts<
     requires passes { (scripts : List Scripted) × ArePasses scripts passes }
     requires fresh { N.state engine.old ≡ fresh_state }
     ensures parts { (scripts : List Scripted) → ArePasses scripts passes → AreParts N.answer_of N.problems_of scripts result }
-    ensures told { OfEach (IsToldMost (of_box told) (of_box faults) (findings_in result.served.pass.pass.seen)) (reporters_of hub) (reporters_of result.served.hub) }
+    ensures told { OfEach (IsToldMost (of_box told) (of_box (λ z. (Reporter-dyn z).faults z.1)) (findings_in result.served.pass.pass.seen)) (reporters_of hub) (reporters_of result.served.hub) }
     ensures counts { RoseIfRefused result.clients (S.faults spawner.old) (S.faults spawner.new) }
 {
     let Passes {
@@ -109,13 +119,17 @@ fn play_parts<
         engine: pass,
     } = passes;
     let mut spare = spare;
-    let engine = LentEngine { engine };
-    let gate = LentGate { gate };
     let begun = beside(
         spawner,
         rt,
-        || serve(rt, alloc, desk, pass, engine, hub, gate),
-        || end_clients(rt, alloc, desk, closing, clients),
+        || -> Served<B>
+            requires { IsEngines pass.pass pass.made pass.made × (N.state engine.now ≡ fresh_state) }
+        { serve(rt, alloc, desk, pass, hub, engine, gate) },
+        || -> Ended<B>
+            requires { AreReady clients.items × IsNew closing (length clients.items) }
+            ensures ended { HaveEnded (length clients.items) result }
+            ensures scripts { IfSome result.clients (λ all. scripts_played all.items ≡ scripts_to_play clients.items) }
+        { end_clients(rt, alloc, desk, closing, clients) },
     );
     match begun {
         Ok((served, ended)) => Parts {
@@ -126,7 +140,7 @@ fn play_parts<
         Err(NotBegun { f, g: _ }) => {
             let index = shut_unbegun(rt, desk, &mut spare);
             Parts {
-                served: f(),
+                served: run(f),
                 clients: ClientsPart::Unbegun(index),
                 spare,
             }
@@ -194,7 +208,7 @@ fn play_at<
     requires can { CanPlayAll scripts }
     requires fresh { N.state engine.old ≡ fresh_state }
     ensures session { IsSession N.answer_of N.problems_of scripts result.outcome result.journal.events result.found }
-    ensures told { OfEach (IsToldMost (of_box told) (of_box faults) (findings N.problems_of result.journal.events)) (reporters_of hub) (reporters_of result.hub) }
+    ensures told { OfEach (IsToldMost (of_box told) (of_box (λ z. (Reporter-dyn z).faults z.1)) (findings N.problems_of result.journal.events)) (reporters_of hub) (reporters_of result.hub) }
     ensures counts { RoseIfUnbegun result.outcome (S.faults spawner.old) (S.faults spawner.new) }
 {
     let (desk, passes) = match desk_of::<B>(alloc, opened, limits, scripts) {
@@ -219,7 +233,7 @@ fn play_told<R: Threads + Wait + Sync, S: Spawner, G: Gate + Send, N: Engine + S
     requires can { CanPlayAll scripts }
     requires fresh { N.state engine.old ≡ fresh_state }
     ensures session { IsSession N.answer_of N.problems_of scripts result.outcome result.journal.events result.found }
-    ensures told { OfEach (IsToldMost (of_box told) (of_box faults) (findings N.problems_of result.journal.events)) (reporters_of hub) (reporters_of result.hub) }
+    ensures told { OfEach (IsToldMost (of_box told) (of_box (λ z. (Reporter-dyn z).faults z.1)) (findings N.problems_of result.journal.events)) (reporters_of hub) (reporters_of result.hub) }
     ensures counts { RoseIfUnbegun result.outcome (S.faults spawner.old) (S.faults spawner.new) }
 {
     let limits = Limits {
@@ -273,7 +287,7 @@ pub(crate) fn play_session<
     requires can { CanPlayAll scripts }
     requires fresh { N.state engine.old ≡ fresh_state }
     ensures session { IsSession N.answer_of N.problems_of scripts result.outcome result.journal.events result.found }
-    ensures told { IsToldMost told faults (findings N.problems_of result.journal.events) reporter result.reporter }
+    ensures told { IsToldMost told (λ b. (Reporter-box b).faults b.value) (findings N.problems_of result.journal.events) reporter result.reporter }
     ensures counts { RoseIfUnbegun result.outcome (S.faults spawner.old) (S.faults spawner.new) }
 {
     let (hub, number) = match attached(alloc, reporter) {
