@@ -21,14 +21,10 @@ const CLOSING: usize = 150;
 fn scripts_of(alloc: Global, run: u64) -> Result<Vec<Vec<Line>>, NoMemory> {
     let mut scripts = Vec::new(alloc);
     for client in 0..CLIENTS {
-        let mut lines = drawn_lines(alloc, run.wrapping_mul(CLIENTS).wrapping_add(client), LINES)?;
-        if run % 3 == 2
-            && client == CLIENTS - 1
-            && let Some(line) = lines.get_mut(CLOSING)
-        {
-            *line = Line::Close;
-        }
-        scripts.push(lines)?;
+        let seed = run.wrapping_mul(CLIENTS).wrapping_add(client);
+        let closes = run % 3 == 2 && client == CLIENTS - 1;
+        let closing = if closes { Some(CLOSING) } else { None };
+        scripts.push(drawn_lines(alloc, seed, LINES, closing)?)?;
     }
     Ok(scripts)
 }

@@ -76,8 +76,13 @@ impl Drawing {
     }
 }
 
-/// So many lines of a client.
-pub fn drawn_lines(alloc: Global, seed: u64, count: usize) -> Result<Vec<Line>, NoMemory> {
+/// So many lines of a client, of which this one shuts the session down.
+pub fn drawn_lines(
+    alloc: Global,
+    seed: u64,
+    count: usize,
+    closing: Option<usize>,
+) -> Result<Vec<Line>, NoMemory> {
     let mut drawing = Drawing {
         state: seed,
         calls: 0,
@@ -85,8 +90,13 @@ pub fn drawn_lines(alloc: Global, seed: u64, count: usize) -> Result<Vec<Line>, 
         cancelled: 0,
     };
     let mut lines = Vec::new(alloc);
-    for _ in 0..count {
-        lines.push(drawing.next())?;
+    for index in 0..count {
+        let line = if closing == Some(index) {
+            Line::Close
+        } else {
+            drawing.next()
+        };
+        lines.push(line)?;
     }
     Ok(lines)
 }
