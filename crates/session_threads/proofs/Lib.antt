@@ -1,0 +1,10 @@
+pub mod Ready
+pub mod Joining
+pub mod Crossing
+pub mod Full
+pub mod Findings
+pub mod Splits
+pub mod Makers
+pub mod Replies
+pub mod Wholes
+pub mod Leaving

@@ -1,0 +1,10 @@
+pub mod Passes
+pub mod Clients
+pub mod Ended
+pub mod Served
+pub mod Sessions
+pub mod Parts
+pub mod Left
+pub mod Written
+pub mod Reading
+pub mod Owed

@@ -1,0 +1,1 @@
+object B { val a = 1; val b = a }
