@@ -8,3 +8,4 @@ pub mod Makers
 pub mod Replies
 pub mod Wholes
 pub mod Leaving
+pub mod Sending
