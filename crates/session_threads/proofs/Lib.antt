@@ -1,6 +1,7 @@
 pub mod Ready
 pub mod Joining
 pub mod Crossing
+pub mod Readable
 pub mod Full
 pub mod Findings
 pub mod Splits
