@@ -1,5 +1,5 @@
 -- Scripts that were read may be played.
-use Rattle.std.proofs.Common.{◌≡◌, ◌⊎◌, inl, inr, ℕ, zero, suc, ◌+◌, ◌^◌, ◌<◌, ◌≤◌, Bool, true, false, not, ◌&&◌, cond, nat_eq, nat_lt, count_by, List, [], ◌∷◌, ◌++◌, length, map, slice_get, Option, Some, None, Ok, Err, refl, sym, ap, ◌∙◌, subst, arith}
+use Rattle.std.proofs.Common.{◌≡◌, ◌⊎◌, inl, inr, ℕ, zero, suc, ◌+◌, ◌^◌, ◌<◌, ◌≤◌, Bool, true, false, not, ◌&&◌, cond, nat_eq, nat_lt, nat_le, count_by, List, [], ◌∷◌, ◌++◌, length, map, slice_get, Option, Some, None, Ok, Err, refl, sym, ap, ◌∙◌, subst, arith}
 use Rattle.std.specs.Prelude.{option_map}
 use Rattle.std.specs.List.{list_all, list_any, AllByRecursion}
 use Rattle.std.proofs.lemmas.Bool.Decides.{nat_tests}
@@ -15,9 +15,9 @@ use Rattle.ask_history.specs.declared.script.Order.TheVariants as order
 use Rattle.ask_history.specs.declared.script.Script.{Script}
 use Rattle.client_scripts.specs.Lines.{AreMeant, AllMayPost, MayPost}
 use Rattle.script_text.specs.Grammar.{AreLines, IsScript}
-use Rattle.script_text.specs.Standing.{cancelled, is_call_above, is_call_line, is_meant, is_number, is_placed, is_written, may_stand}
+use Rattle.script_text.specs.Standing.{cancelled, is_call_above, is_call_line, is_meant, is_placed, is_written, may_stand}
 use Rattle.script_text.specs.Texts.{line_with, order_with, script_with}
-use Rattle.script_text.specs.Words.{lines_of}
+use Rattle.script_text.specs.Words.{lines_of, is_number}
 use Rattle.script_text.specs.declared.kinds.ScriptKind.TheVariants as kind
 use Rattle.script_text.proofs.WordLemmas.{left_of_both, right_of_both}
 use Rattle.session_input.specs.Clients.{clients_reading, named_scripts, scripts_with_sources, scripts_within}
