@@ -80,6 +80,14 @@ fn desk_of<B: Room>(
     Ok((desk, passes))
 }
 
+// Runs a closure.
+fn run<A, F: FnOnce() -> A>(f: F) -> A
+    requires { F.pre f }
+    ensures { F.post f result }
+{
+    f()
+}
+
 // The engine serves beside the clients. Where no thread can be started for them, the spare pass shuts the session down, and
 // then the engine serves alone, and finds it shut down.
 fn play_parts<
@@ -132,7 +140,7 @@ fn play_parts<
         Err(NotBegun { f, g: _ }) => {
             let index = shut_unbegun(rt, desk, &mut spare);
             Parts {
-                served: f(),
+                served: run(f),
                 clients: ClientsPart::Unbegun(index),
                 spare,
             }
