@@ -1,6 +1,8 @@
 pub mod Ready
 pub mod Joining
 pub mod Crossing
+pub mod Readable
+pub mod Running
 pub mod Full
 pub mod Findings
 pub mod Splits

@@ -42,25 +42,6 @@ pub(crate) struct Session {
     pub(crate) reporter: Box<dyn Reporter + Send>,
 }
 
-// A hub with the reporter, and its number there. Out of memory the reporter comes back.
-fn attached(
-    alloc: Global,
-    reporter: Box<dyn Reporter + Send>,
-) -> Result<(Hub, usize), Box<dyn Reporter + Send>>
-    ensures hub { IfOk result (λ both. reporters_of both.0 ≡ Some reporter ∷ []) }
-    ensures number { IfOk result (λ both. both.1 ≡ 0) }
-    ensures handed_back { IfErr result (λ back. back ≡ reporter) }
-{
-    let mut hub = match Hub::new(alloc) {
-        Ok(hub) => hub,
-        Err(NoMemory {}) => return Err(reporter),
-    };
-    match hub.attach(reporter) {
-        Ok(number) => Ok((hub, number)),
-        Err(reporter) => Err(reporter),
-    }
-}
-
 // The desk of a session, and its passes.
 fn desk_of<B: Room>(
     alloc: Global,
@@ -293,8 +274,12 @@ pub(crate) fn play_session<
     ensures told { IsToldMost told (λ b. (Reporter-box b).faults b.value) (findings N.problems_of result.journal.events) reporter result.reporter }
     ensures counts { RoseIfUnbegun result.outcome (S.faults spawner.old) (S.faults spawner.new) }
 {
-    let (hub, number) = match attached(alloc, reporter) {
-        Ok(both) => both,
+    let mut hub = match Hub::new(alloc) {
+        Ok(hub) => hub,
+        Err(NoMemory {}) => return nothing(alloc, reporter),
+    };
+    let number = match hub.attach(reporter) {
+        Ok(number) => number,
         Err(reporter) => return nothing(alloc, reporter),
     };
     let Left {
