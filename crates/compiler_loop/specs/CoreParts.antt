@@ -1,6 +1,6 @@
 -- The open asks and the staged mutation of a core.
 use Rattle.std.specs.Prelude.{◌≡◌, ℕ, List, [], ◌∷◌, length, take, Option, Some, None}
-use Rattle.safe_points.specs.declared.entry.Entry.{Entry}
+use Rattle.safe_points.specs.declared.ticketed.Ticketed.{Ticketed}
 use Rattle.ask_history.specs.Sources.{Bytes}
 use Rattle.ask_history.specs.declared.calls.Call.{Call}
 use Rattle.ask_history.specs.declared.calls.Call.TheVariants as call
@@ -13,9 +13,9 @@ use Rattle.compiler_loop.specs.declared.tasks.Staged.{Staged}
 use Rattle.compiler_loop.specs.LoadedView.{names_of, outcomes_of, HasRoom}
 
 -- the open asks with their tickets, from bottom to top
-abbrev pub asks_of : List (Entry Task) → List (ℕ × Call)
+abbrev pub asks_of : List (Ticketed Task) → List (ℕ × Call)
 asks_of [] = []
-asks_of (entry ∷ above) = (entry.ticket, entry.task.call) ∷ asks_of above
+asks_of (ticketed ∷ above) = (ticketed.ticket, ticketed.task.call) ∷ asks_of above
 
 abbrev pub entries_of : List NewFile → List (Bytes × Bytes)
 entries_of [] = []

@@ -24,9 +24,9 @@ use Rattle.compiler_loop.specs.declared.thin.reading.ThinVal.{ThinVal}
 use Rattle.compiler_loop.specs.declared.thin.reading.ThinObject.{ThinObject}
 use Rattle.compiler_loop.specs.declared.thin.reading.ThinUnit.{ThinUnit}
 use Rattle.compiler_loop.specs.declared.thin.reading.ThinUnit.TheVariants.{Empty, Object, Other}
-use Rattle.compiler_loop.specs.declared.thin.locating.Spot.{Spot}
-use Rattle.compiler_loop.specs.declared.thin.locating.Spot.TheVariants as spot
-use Rattle.compiler_loop.specs.declared.thin.locating.Place.{Place}
+use Rattle.compiler_loop.specs.declared.thin.locating.Which.{Which}
+use Rattle.compiler_loop.specs.declared.thin.locating.Which.TheVariants as which
+use Rattle.compiler_loop.specs.declared.thin.locating.ThinTree.{ThinTree}
 use Rattle.compiler_loop.specs.Thin.{Bytes, unit_of}
 
 -- ---- the tree at an offset
@@ -34,40 +34,40 @@ use Rattle.compiler_loop.specs.Thin.{Bytes, unit_of}
 abbrev pub span_from : ℕ → ℕ → Span
 span_from start end = record { start = start; end = end }
 
-abbrev pub place : Spot → ℕ → Span → Place
-place at depth span = record { spot = at; depth = depth; span = span }
+abbrev pub thin_tree : Which → ℕ → Span → ThinTree
+thin_tree at depth span = record { which = at; depth = depth; span = span }
 
 -- the trees of the vals from this one on, each val with its right side below it
-abbrev pub val_places : ℕ → List ThinVal → List Place
-val_places n [] = []
-val_places n (v ∷ vals) =
-    place (spot.Val n) 2 (span_from v.start v.right.end) ∷ place (spot.Right n) 3 v.right ∷ val_places (n + 1) vals
+abbrev pub val_trees : ℕ → List ThinVal → List ThinTree
+val_trees n [] = []
+val_trees n (v ∷ vals) =
+    thin_tree (which.Val n) 2 (span_from v.start v.right.end) ∷ thin_tree (which.Right n) 3 v.right ∷ val_trees (n + 1) vals
 
 -- all trees of a unit of this length but the unit's own
-abbrev pub places : ℕ → ThinUnit → List Place
-places len Empty = []
-places len Other = []
-places len (Object object) = place spot.Object 1 (span_from 0 len) ∷ val_places 0 object.vals
+abbrev pub trees : ℕ → ThinUnit → List ThinTree
+trees len Empty = []
+trees len Other = []
+trees len (Object object) = thin_tree which.Object 1 (span_from 0 len) ∷ val_trees 0 object.vals
 
-abbrev pub encloses : ℕ → Place → Bool
+abbrev pub encloses : ℕ → ThinTree → Bool
 encloses offset p = nat_le p.span.start offset && nat_le offset p.span.end
 
 -- a later start, else an earlier end, else a greater depth
-abbrev pub is_better : Place → Place → Bool
+abbrev pub is_better : ThinTree → ThinTree → Bool
 is_better p best =
     nat_lt best.span.start p.span.start
     || ((p.span.start == best.span.start) && (nat_lt p.span.end best.span.end || ((p.span.end == best.span.end) && nat_lt best.depth p.depth)))
 
-abbrev pub better : ℕ → Place → Place → Place
+abbrev pub better : ℕ → ThinTree → ThinTree → ThinTree
 better offset best p = if encloses offset p && is_better p best then p else best
 
-abbrev pub best_of : ℕ → Place → List Place → Place
+abbrev pub best_of : ℕ → ThinTree → List ThinTree → ThinTree
 best_of offset best [] = best
 best_of offset best (p ∷ ps) = best_of offset (better offset best p) ps
 
 -- Of the trees that enclose the offset: the one that starts last, of these the shortest, of these the deepest.
-abbrev pub located : ℕ → ℕ → ThinUnit → Place
-located len offset unit = best_of offset (place spot.Unit 0 (span_from 0 len)) (places len unit)
+abbrev pub located : ℕ → ℕ → ThinUnit → ThinTree
+located len offset unit = best_of offset (thin_tree which.Unit 0 (span_from 0 len)) (trees len unit)
 
 -- ---- what is found of a tree
 
@@ -107,16 +107,16 @@ abbrev pub right_info : Bytes → Span → Option ThinVal → TreeInfo
 right_info object span None = bare_info tree_kind.Literal span
 right_info object span (Some v) = right_symbol_info object span v.of v.refers
 
-abbrev pub info_in_object : ThinObject → Span → Spot → TreeInfo
-info_in_object object span spot.Unit = bare_info tree_kind.Unit span
-info_in_object object span spot.Object = tree_info tree_kind.ObjectDef span None (Some (object_symbol object.name))
-info_in_object object span (spot.Val n) = val_info object.name span (slice_get object.vals n)
-info_in_object object span (spot.Right n) = right_info object.name span (slice_get object.vals n)
+abbrev pub info_in_object : ThinObject → Span → Which → TreeInfo
+info_in_object object span which.Unit = bare_info tree_kind.Unit span
+info_in_object object span which.Object = tree_info tree_kind.ObjectDef span None (Some (object_symbol object.name))
+info_in_object object span (which.Val n) = val_info object.name span (slice_get object.vals n)
+info_in_object object span (which.Right n) = right_info object.name span (slice_get object.vals n)
 
-abbrev pub info_at : ThinUnit → Place → TreeInfo
+abbrev pub info_at : ThinUnit → ThinTree → TreeInfo
 info_at Empty p = bare_info tree_kind.Unit p.span
 info_at Other p = bare_info tree_kind.Unit p.span
-info_at (Object object) p = info_in_object object p.span p.spot
+info_at (Object object) p = info_in_object object p.span p.which
 
 -- ---- answers
 

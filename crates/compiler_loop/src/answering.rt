@@ -58,6 +58,6 @@ fn answer_tree(
     if len < offset {
         return Ok(Answer::NoTree);
     }
-    let place = located(len, offset, &source.unit);
-    Ok(Answer::Tree(info_at(alloc, &source.unit, place)?))
+    let tree = located(len, offset, &source.unit);
+    Ok(Answer::Tree(info_at(alloc, &source.unit, tree)?))
 }

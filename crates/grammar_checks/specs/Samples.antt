@@ -2,7 +2,7 @@
 use Rattle.std.specs.Prelude.{ℕ, false, [], ◌∷◌, codes}
 use Rattle.scan_tokens.specs.declared.tokens.Newline.TheVariants.{No}
 use Rattle.scan_tokens.specs.Words.{Bytes}
-use Rattle.source_grammar.specs.Expressions.{Prefix, Unsigned, Signed, Minus, Prim, LiteralPrim, NamePrim, Placeholder, ApplyPrim, ExprArgs, LastExpr, LastPrefix, MorePrefixes, Expr, InfixExpr, AssignApply}
+use Rattle.source_grammar.specs.Expressions.{Prefix, Unsigned, Signed, Minus, Prim, LiteralPrim, NamePrim, Placeholder, ApplyPrim, ExprArgs, LastExpr, LastPrefix, MorePrefixes, Expr, Headed, InfixExpr, AssignApply}
 use Rattle.source_grammar.specs.Lexemes.{Place, Arrow, Id, QualId, IntLiteral}
 use Rattle.source_grammar.specs.Patterns.{Pat, LastAlternative, InfixPat, LastOperand, MoreOperands, SPat, VarPat, PathPat}
 use Rattle.source_grammar.specs.Types.{WrittenType, FunOfNamed, FunOfTypes, Simple, Named, InParentheses, OfPath, Singleton, LastType, MoreTypes}
@@ -96,5 +96,6 @@ placeholder_argument = InfixExpr (LastPrefix (Unsigned (ApplyPrim (NamePrim (id 
 
 -- a(1) = 2
 abbrev pub update : Expr
-update = AssignApply (NamePrim (id (codes "a") 0 1)) (ExprArgs (at 1 2) (LastExpr (InfixExpr (LastPrefix (number (codes "1") 2 3)))) (at 3 4)) (at 5 6)
+update = Headed
+    (AssignApply (NamePrim (id (codes "a") 0 1)) (ExprArgs (at 1 2) (LastExpr (InfixExpr (LastPrefix (number (codes "1") 2 3)))) (at 3 4)) (at 5 6))
     (InfixExpr (LastPrefix (number (codes "2") 7 8)))

@@ -4,10 +4,10 @@ use Rattle.reading_machines.specs.Machines.{run, onward}
 use Rattle.source_grammar.specs.Lexemes.{Place, Lexeme, open_round, close_round, open_square, close_square, comma, dot, Arrow, arrow_token, Id, id_token, Step, QualId, steps_tokens, qual_id_tokens}
 use Rattle.source_grammar.specs.Types.{WrittenType, SimpleType, NamedType, TypeList, FunOfNamed, FunOfNone, FunOfTypes, Simple, Named, InParentheses, Pair, Triple, OfPath, Applied, Singleton, LastType, MoreTypes, type_tokens, simple_tokens, named_tokens, type_list_tokens}
 use Rattle.parse_parts.proofs.Seen.{seen-id, seen-arrow}
-use Rattle.parse_parts.proofs.Derived.{Head, NamedHead, NoneHead, TypesHead, Spot, Begin, AtPath, AtDot, AtNamed, AtNone, AtTypes, Bracket, Round, Square, Done, Frame, State, settled, listed, simple_of, head_of, named_on, pushed, parted, filled, round_within, square_closed, moved, step}
+use Rattle.parse_parts.proofs.Derived.{Head, NamedHead, NoneHead, TypesHead, Tail, Begin, AtPath, AtDot, AtNamed, AtNone, AtTypes, Bracket, Round, Square, Done, Frame, State, settled, listed, simple_of, head_of, named_on, pushed, parted, filled, round_within, square_closed, moved, step}
 
-abbrev pub at : List Frame → List Head → Spot → State
-at fs hs spot = record { frames = fs; heads = hs; spot = spot }
+abbrev pub at : List Frame → List Head → Tail → State
+at fs hs tail = record { frames = fs; heads = hs; tail = tail }
 
 abbrev pub frame : Bracket → List Done → List Head → Frame
 frame b done outer = record { bracket = b; done = done; heads = outer }
@@ -31,15 +31,15 @@ leads-one x s t e = leads-on x [] s t t e (leads-none t)
 pub leads-to : (ts : List Lexeme) (s t u : State) → t ≡ u → Leads ts s t → Leads ts s u
 leads-to ts s t u e p = record { runs = λ xs. p.runs xs ∙ ap (run step xs) e }
 
-pub id-step : (id : Id) (s : State) → step s (id_token id) ≡ named_on id s.spot s.heads s.frames
-id-step id s = ap (λ y. moved y s.spot s.heads s.frames) (seen-id id)
+pub id-step : (id : Id) (s : State) → step s (id_token id) ≡ named_on id s.tail s.heads s.frames
+id-step id s = ap (λ y. moved y s.tail s.heads s.frames) (seen-id id)
 
-pub arrow-step : (a : Arrow) (s : State) → step s (arrow_token a) ≡ pushed (head_of a s.spot) s.heads s.frames
-arrow-step a s = ap (λ y. moved y s.spot s.heads s.frames) (seen-arrow a)
+pub arrow-step : (a : Arrow) (s : State) → step s (arrow_token a) ≡ pushed (head_of a s.tail) s.heads s.frames
+arrow-step a s = ap (λ y. moved y s.tail s.heads s.frames) (seen-arrow a)
 
-pub arrow-head : (a : Arrow) (fs : List Frame) (hs : List Head) (spot : Spot) (h : Head) → head_of a spot ≡ Some h
-    → step (at fs hs spot) (arrow_token a) ≡ Some (at fs (h ∷ hs) Begin)
-arrow-head a fs hs spot h e = arrow-step a (at fs hs spot) ∙ ap (λ o. pushed o hs fs) e
+pub arrow-head : (a : Arrow) (fs : List Frame) (hs : List Head) (tail : Tail) (h : Head) → head_of a tail ≡ Some h
+    → step (at fs hs tail) (arrow_token a) ≡ Some (at fs (h ∷ hs) Begin)
+arrow-head a fs hs tail h e = arrow-step a (at fs hs tail) ∙ ap (λ o. pushed o hs fs) e
 
 -- ---- paths
 
@@ -62,15 +62,15 @@ path-along path fs hs =
 
 -- ---- where a type was read
 
-abbrev pub named_spot : NamedType → Spot
-named_spot (OfPath path) = AtPath path
-named_spot named = AtNamed named
+abbrev pub named_tail : NamedType → Tail
+named_tail (OfPath path) = AtPath path
+named_tail named = AtNamed named
 
-abbrev pub simple_spot : SimpleType → Spot
-simple_spot (Named named) = named_spot named
-simple_spot (InParentheses o a c) = AtTypes o (LastType a) c
-simple_spot (Pair o a p b c) = AtTypes o (MoreTypes a p (LastType b)) c
-simple_spot (Triple o a p b q d c) = AtTypes o (MoreTypes a p (MoreTypes b q (LastType d))) c
+abbrev pub simple_tail : SimpleType → Tail
+simple_tail (Named named) = named_tail named
+simple_tail (InParentheses o a c) = AtTypes o (LastType a) c
+simple_tail (Pair o a p b c) = AtTypes o (MoreTypes a p (LastType b)) c
+simple_tail (Triple o a p b q d c) = AtTypes o (MoreTypes a p (MoreTypes b q (LastType d))) c
 
 abbrev pub last_simple : WrittenType → SimpleType
 last_simple (FunOfNamed named a result) = last_simple result
@@ -92,15 +92,15 @@ abbrev pub done_of : TypeList → List Done → List Done
 done_of (LastType type) done = done
 done_of (MoreTypes type p types) done = done_of types (record { type = type; place = p } ∷ done)
 
-named-head : (named : NamedType) (a : Arrow) → head_of a (named_spot named) ≡ Some (NamedHead named a)
+named-head : (named : NamedType) (a : Arrow) → head_of a (named_tail named) ≡ Some (NamedHead named a)
 named-head (OfPath path) a = refl
 named-head _ a = refl
 
-named-simple : (named : NamedType) → simple_of (named_spot named) ≡ Some (Named named)
+named-simple : (named : NamedType) → simple_of (named_tail named) ≡ Some (Named named)
 named-simple (OfPath path) = refl
 named-simple _ = refl
 
-pub simple-there : (simple : SimpleType) → simple_of (simple_spot simple) ≡ Some simple
+pub simple-there : (simple : SimpleType) → simple_of (simple_tail simple) ≡ Some simple
 simple-there (Named named) = named-simple named
 simple-there _ = refl
 
@@ -116,19 +116,19 @@ listed-there (MoreTypes type p types) done = listed-there types (record { type =
 
 -- a type was read here
 abbrev pub after : List Frame → List Head → WrittenType → State
-after fs hs type = at fs (heads_of type hs) (simple_spot (last_simple type))
+after fs hs type = at fs (heads_of type hs) (simple_tail (last_simple type))
 
 -- ---- what ends a type in brackets
 
-pub round-filled : (o c : Place) (spot : Spot) (simple : SimpleType) (hs : List Head) (f : Frame) (fs : List Frame) → simple_of spot ≡ Some simple
-    → round_within o c spot hs f fs ≡ filled o c (Some simple) hs f fs
+pub round-filled : (o c : Place) (tail : Tail) (simple : SimpleType) (hs : List Head) (f : Frame) (fs : List Frame) → simple_of tail ≡ Some simple
+    → round_within o c tail hs f fs ≡ filled o c (Some simple) hs f fs
 round-filled o c Begin simple [] f fs e = cc
-round-filled o c spot simple hs f fs e = ap (λ k. filled o c k hs f fs) e
+round-filled o c tail simple hs f fs e = ap (λ k. filled o c k hs f fs) e
 
 round-ends : (o c : Place) (type : WrittenType) (done : List Done) (outer : List Head) (fs : List Frame)
     → step (after (frame (Round o) done outer ∷ fs) [] type) (close_round c) ≡ Some (at fs outer (AtTypes o (listed done (LastType type)) c))
 round-ends o c type done outer fs =
-    round-filled o c (simple_spot (last_simple type)) (last_simple type) (heads_of type []) (frame (Round o) done outer) fs (simple-there (last_simple type))
+    round-filled o c (simple_tail (last_simple type)) (last_simple type) (heads_of type []) (frame (Round o) done outer) fs (simple-there (last_simple type))
     ∙ ap (λ w. Some (at fs outer (AtTypes o (listed done (LastType w)) c))) (settled-there type [])
 
 square-ends : (path : QualId) (o c : Place) (type : WrittenType) (done : List Done) (outer : List Head) (fs : List Frame)
@@ -148,8 +148,8 @@ comma-ends b p type done outer fs =
 mutual
   pub type-along : (type : WrittenType) (fs : List Frame) (hs : List Head) → Leads (type_tokens type) (at fs hs Begin) (after fs hs type)
   type-along (FunOfNamed named a result) fs hs =
-      leads-then (named_tokens named) _ _ (at fs hs (named_spot named)) _ (named-along named fs hs)
-      (leads-on (arrow_token a) _ _ (at fs (NamedHead named a ∷ hs) Begin) _ (arrow-head a fs hs (named_spot named) _ (named-head named a))
+      leads-then (named_tokens named) _ _ (at fs hs (named_tail named)) _ (named-along named fs hs)
+      (leads-on (arrow_token a) _ _ (at fs (NamedHead named a ∷ hs) Begin) _ (arrow-head a fs hs (named_tail named) _ (named-head named a))
       (type-along result fs (NamedHead named a ∷ hs)))
   type-along (FunOfNone o c a result) fs hs =
       leads-on (open_round o) _ _ (at (frame (Round o) [] hs ∷ fs) [] Begin) _ refl
@@ -165,7 +165,7 @@ mutual
       (type-along result fs (TypesHead o types c a ∷ hs)))))
   type-along (Simple simple) fs hs = simple-along simple fs hs
 
-  pub simple-along : (simple : SimpleType) (fs : List Frame) (hs : List Head) → Leads (simple_tokens simple) (at fs hs Begin) (at fs hs (simple_spot simple))
+  pub simple-along : (simple : SimpleType) (fs : List Frame) (hs : List Head) → Leads (simple_tokens simple) (at fs hs Begin) (at fs hs (simple_tail simple))
   simple-along (Named named) fs hs = named-along named fs hs
   simple-along (InParentheses o x c) fs hs =
       leads-on (open_round o) _ _ (at (frame (Round o) [] hs ∷ fs) [] Begin) _ refl
@@ -186,7 +186,7 @@ mutual
       (leads-on (comma q) _ _ (at (beyond ∷ fs) [] Begin) _ (comma-ends (Round o) q y behind.done hs fs)
       (leads-then (type_tokens z) _ _ _ _ (type-along z (beyond ∷ fs) []) (leads-one (close_round c) _ _ (round-ends o c z beyond.done hs fs)))))))
 
-  pub named-along : (named : NamedType) (fs : List Frame) (hs : List Head) → Leads (named_tokens named) (at fs hs Begin) (at fs hs (named_spot named))
+  pub named-along : (named : NamedType) (fs : List Frame) (hs : List Head) → Leads (named_tokens named) (at fs hs Begin) (at fs hs (named_tail named))
   named-along (OfPath path) fs hs = path-along path fs hs
   named-along (Applied path o types c) fs hs =
       leads-then (qual_id_tokens path) _ _ (at fs hs (AtPath path)) _ (path-along path fs hs)

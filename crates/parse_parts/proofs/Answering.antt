@@ -20,12 +20,12 @@ use Rattle.parse_parts.proofs.Sound.{whole-is, type_read, whole-tokens}
 
 -- the type of a state
 abbrev pub type_in : State → Option Tall
-type_in s = type_at s.heads s.spot
+type_in s = type_at s.heads s.tail
 
-reader-whole : (s : derived.State) → (reader).whole (shown s) ≡ derived.whole_at s.frames s.spot
+reader-whole : (s : derived.State) → (reader).whole (shown s) ≡ derived.whole_at s.frames s.tail
 reader-whole s = go s.frames where
-  go : (fs : List derived.Frame) → (reader).whole (shown (record { frames = fs; heads = s.heads; spot = s.spot })) ≡ derived.whole_at fs s.spot
-  go [] = whole-same s.spot
+  go : (fs : List derived.Frame) → (reader).whole (shown (record { frames = fs; heads = s.heads; tail = s.tail })) ≡ derived.whole_at fs s.tail
+  go [] = whole-same s.tail
   go (f ∷ fs) = refl
 
 -- the reader comes as far as the machine, to the picture of its state
@@ -33,14 +33,14 @@ reader-reads : (ts : List Lexeme) → reading reader anything ts 0 None begun �
 reader-reads ts = reading-pictured shown (derived.machine) reader anything step-same reader-whole ts 0 None (derived.machine).start
 
 -- the type that ends in a whole state is one of the tokens read, with its tree as far as it is kept
-ended : (xs : List Lexeme) (s : derived.State) → run derived.step xs (derived.machine).start ≡ Some s → derived.whole_at s.frames s.spot ≡ true
+ended : (xs : List Lexeme) (s : derived.State) → run derived.step xs (derived.machine).start ≡ Some s → derived.whole_at s.frames s.tail ≡ true
     → Ended IsType xs (type_in (shown s))
 ended xs s r w =
     let whole = whole-is s w in
     record {
       tree = type_tree (type_read s.heads whole.simple);
       is = record { derivation = type_read s.heads whole.simple; tokens = whole-tokens xs s r whole; built = refl };
-      made = type-shown s.heads s.spot whole.simple whole.ends;
+      made = type-shown s.heads s.tail whole.simple whole.ends;
     }
 
 small : (xs : List Lexeme) (tree : Tree) → IsType xs tree → size tree ≤ length xs

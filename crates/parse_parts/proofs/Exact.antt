@@ -9,7 +9,7 @@ use Rattle.positioned_trees.specs.declared.trees.Tree.{Tree}
 use Rattle.source_grammar.specs.Lexemes.{Place, Lexeme, close_round, close_square, Arrow, arrow_token, Id, id_token, QualId}
 use Rattle.source_grammar.specs.Types.{WrittenType, Simple, Named, OfPath, Applied, LastType, IsType, type_tokens, type_tree}
 use Rattle.parse_parts.specs.Parting.{IsSomePart}
-use Rattle.parse_parts.proofs.Derived.{Head, NamedHead, NoneHead, TypesHead, Spot, Begin, AtPath, AtDot, AtNamed, AtNone, AtTypes, Bracket, Round, Square, Frame, State, settled, listed, simple_of, longer, step, is_some, whole_at, machine}
+use Rattle.parse_parts.proofs.Derived.{Head, NamedHead, NoneHead, TypesHead, Tail, Begin, AtPath, AtDot, AtNamed, AtNone, AtTypes, Bracket, Round, Square, Frame, State, settled, listed, simple_of, longer, step, is_some, whole_at, machine}
 use Rattle.parse_parts.proofs.Sound.{whole-is, type_read, whole-tokens}
 use Rattle.parse_parts.proofs.Along.{at, Leads, leads-none, leads-then, leads-on, leads-one, id-step, arrow-head, last_simple, heads_of, simple-there, settled-there, after, type-along}
 
@@ -34,15 +34,15 @@ record Revived (fs : List Frame) (s : State) : Type 0 where
   path : QualId
   leads : Leads others s (at fs heads (AtPath path))
 
-arrow-on : (fs : List Frame) (hs : List Head) (spot : Spot) (h : Head) → step (at fs hs spot) (arrow_token an_arrow) ≡ Some (at fs (h ∷ hs) Begin) → Revived fs (at fs hs spot)
-arrow-on fs hs spot h e = record {
+arrow-on : (fs : List Frame) (hs : List Head) (tail : Tail) (h : Head) → step (at fs hs tail) (arrow_token an_arrow) ≡ Some (at fs (h ∷ hs) Begin) → Revived fs (at fs hs tail)
+arrow-on fs hs tail h e = record {
   others = arrow_token an_arrow ∷ id_token an_id ∷ [];
   heads = h ∷ hs;
   path = short;
   leads = leads-on (arrow_token an_arrow) _ _ (at fs (h ∷ hs) Begin) _ e (leads-one (id_token an_id) _ _ (id-step an_id (at fs (h ∷ hs) Begin)));
 }
 
-revived : (fs : List Frame) (hs : List Head) (spot : Spot) → Revived fs (at fs hs spot)
+revived : (fs : List Frame) (hs : List Head) (tail : Tail) → Revived fs (at fs hs tail)
 revived fs hs Begin = record { others = id_token an_id ∷ []; heads = hs; path = short; leads = leads-one _ _ _ (id-step an_id (at fs hs Begin)) }
 revived fs hs (AtPath path) = record { others = []; heads = hs; path = path; leads = leads-none _ }
 revived fs hs (AtDot path d) = record { others = id_token an_id ∷ []; heads = hs; path = longer path d an_id; leads = leads-one _ _ _ (id-step an_id (at fs hs (AtDot path d))) }
@@ -63,18 +63,18 @@ closed (f ∷ fs) hs path = go f.bracket f.done f.heads (λ outer p. closed fs o
   go : (b : Bracket) (done : List _) (outer : List Head) → ((outer : List Head) (p : QualId) → Revived [] (at fs outer (AtPath p)))
       → Revived [] (at (record { bracket = b; done = done; heads = outer } ∷ fs) hs (AtPath path))
   go (Round o) done outer on =
-      let spot = AtTypes o (listed done (LastType type)) any_place in
-      let r = revived fs outer spot in
-      join fs [] (close_round any_place ∷ []) _ (at fs outer spot) (leads-one _ _ _ refl) (join fs [] r.others _ _ r.leads (on r.heads r.path))
+      let tail = AtTypes o (listed done (LastType type)) any_place in
+      let r = revived fs outer tail in
+      join fs [] (close_round any_place ∷ []) _ (at fs outer tail) (leads-one _ _ _ refl) (join fs [] r.others _ _ r.leads (on r.heads r.path))
   go (Square p o) done outer on =
-      let spot = AtNamed (Applied p o (listed done (LastType type)) any_place) in
-      let r = revived fs outer spot in
-      join fs [] (close_square any_place ∷ []) _ (at fs outer spot) (leads-one _ _ _ refl) (join fs [] r.others _ _ r.leads (on r.heads r.path))
+      let tail = AtNamed (Applied p o (listed done (LastType type)) any_place) in
+      let r = revived fs outer tail in
+      join fs [] (close_square any_place ∷ []) _ (at fs outer tail) (leads-one _ _ _ refl) (join fs [] r.others _ _ r.leads (on r.heads r.path))
 
 alive : (s : State) → Revived [] s
-alive s = let r = revived s.frames s.heads s.spot in join s.frames [] r.others s (at s.frames r.heads (AtPath r.path)) r.leads (closed s.frames r.heads r.path)
+alive s = let r = revived s.frames s.heads s.tail in join s.frames [] r.others s (at s.frames r.heads (AtPath r.path)) r.leads (closed s.frames r.heads r.path)
 
-sound : (xs : List Lexeme) (s : State) → run step xs (machine).start ≡ Some s → whole_at s.frames s.spot ≡ true → IsSomePart IsType xs
+sound : (xs : List Lexeme) (s : State) → run step xs (machine).start ≡ Some s → whole_at s.frames s.tail ≡ true → IsSomePart IsType xs
 sound xs s r w =
     let whole = whole-is s w in
     record { tree = type_tree (type_read s.heads whole.simple); is = record { derivation = type_read s.heads whole.simple; tokens = whole-tokens xs s r whole; built = refl } }
@@ -99,8 +99,8 @@ one-derivation d e same =
     let states : Some (after [] [] d) ≡ Some (after [] [] e) = sym (type-runs d (type_tokens d) refl) ∙ type-runs e (type_tokens d) same in
     let there : after [] [] d ≡ after [] [] e = cc in
     let heads : heads_of d [] ≡ heads_of e [] = ap (λ s. s.heads) there in
-    let spots : Some (last_simple d) ≡ Some (last_simple e) =
-    sym (simple-there (last_simple d)) ∙ ap (λ s. simple_of s.spot) there ∙ simple-there (last_simple e) in
+    let tails : Some (last_simple d) ≡ Some (last_simple e) =
+    sym (simple-there (last_simple d)) ∙ ap (λ s. simple_of s.tail) there ∙ simple-there (last_simple e) in
     let simples : last_simple d ≡ last_simple e = cc in
     sym (settled-there d []) ∙ ap (λ hs. settled hs (Simple (last_simple d))) heads ∙ ap (λ s. settled (heads_of e []) (Simple s)) simples ∙ settled-there e []
 

@@ -13,8 +13,8 @@ use Rattle.parse_parts.specs.declared.states.Count.TheVariants as count
 use Rattle.parse_parts.specs.declared.states.Path.{Path}
 use Rattle.parse_parts.specs.declared.states.Head.{Head}
 use Rattle.parse_parts.specs.declared.states.Frame.{Frame}
-use Rattle.parse_parts.specs.declared.states.Spot.{Spot}
-use Rattle.parse_parts.specs.declared.states.Spot.TheVariants as spot
+use Rattle.parse_parts.specs.declared.states.Tail.{Tail}
+use Rattle.parse_parts.specs.declared.states.Tail.TheVariants as tail
 use Rattle.parse_parts.specs.declared.states.State.{State}
 use Rattle.parse_parts.specs.Built.{no_kids, joined, alone, node}
 use Rattle.parse_parts.specs.Steps as spec
@@ -129,15 +129,15 @@ named_end (OfPath path) = (last_id path).place.span.end
 named_end (Applied path o types c) = c.span.end
 named_end (Singleton path d w) = w.span.end
 
-abbrev pub spot_shown : derived.Spot → Spot
-spot_shown derived.Begin = spot.Begin
-spot_shown (derived.AtPath path) = spot.AtPath (path_shown path)
-spot_shown (derived.AtDot path d) = spot.AtDot (path_shown path)
-spot_shown (derived.AtNamed named) =
-    spot.AtEnded (record { span = record { start = (first_id named).place.span.start; end = named_end named }; tall = kept (named_tree named) })
-spot_shown (derived.AtNone o c) = spot.AtGroup (record { span = record { start = o.span.start; end = c.span.end }; count = count.Zero; kids = no_kids })
-spot_shown (derived.AtTypes o types c) =
-    spot.AtGroup (record { span = record { start = o.span.start; end = c.span.end }; count = count_of types; kids = kept_all (type_list_trees types) })
+abbrev pub tail_shown : derived.Tail → Tail
+tail_shown derived.Begin = tail.Begin
+tail_shown (derived.AtPath path) = tail.AtPath (path_shown path)
+tail_shown (derived.AtDot path d) = tail.AtDot (path_shown path)
+tail_shown (derived.AtNamed named) =
+    tail.AtEnded (record { span = record { start = (first_id named).place.span.start; end = named_end named }; tall = kept (named_tree named) })
+tail_shown (derived.AtNone o c) = tail.AtGroup (record { span = record { start = o.span.start; end = c.span.end }; count = count.Zero; kids = no_kids })
+tail_shown (derived.AtTypes o types c) =
+    tail.AtGroup (record { span = record { start = o.span.start; end = c.span.end }; count = count_of types; kids = kept_all (type_list_trees types) })
 
 abbrev pub head_shown : derived.Head → Head
 head_shown (derived.NamedHead named a) = record { start = (first_id named).place.span.start; kids = kept_all (named_tree named ∷ []) }
@@ -161,7 +161,7 @@ frame_shown f = record {
 }
 
 abbrev pub shown : derived.State → State
-shown s = record { frames = map frame_shown s.frames; heads = map head_shown s.heads; spot = spot_shown s.spot }
+shown s = record { frames = map frame_shown s.frames; heads = map head_shown s.heads; tail = tail_shown s.tail }
 
 -- ---- where the tokens end
 
@@ -181,11 +181,11 @@ named-ends (OfPath path) = steps-end path.first path.steps
 named-ends (Applied path o types c) = end-behind 0 (qual_id_tokens path) _ _ ∙ end-behind o.span.end (type_list_tokens types) _ []
 named-ends (Singleton path d w) = end-behind 0 (qual_id_tokens path) _ _
 
-pub spot-ends : (s : derived.Spot) (simple : SimpleType) → derived.simple_of s ≡ Some simple → end_of (derived.spot_tokens s) ≡ spec.spot_end (spot_shown s)
-spot-ends (derived.AtPath path) simple e = steps-end path.first path.steps
-spot-ends (derived.AtNamed named) simple e = named-ends named
-spot-ends (derived.AtTypes o types c) simple e = end-behind o.span.end (type_list_tokens types) _ []
-spot-ends _ simple e = cc
+pub tail-ends : (s : derived.Tail) (simple : SimpleType) → derived.simple_of s ≡ Some simple → end_of (derived.tail_tokens s) ≡ spec.tail_end (tail_shown s)
+tail-ends (derived.AtPath path) simple e = steps-end path.first path.steps
+tail-ends (derived.AtNamed named) simple e = named-ends named
+tail-ends (derived.AtTypes o types c) simple e = end-behind o.span.end (type_list_tokens types) _ []
+tail-ends _ simple e = cc
 
 -- tokens that begin with this one
 pub record Begins (x : Lexeme) (xs : List Lexeme) : Type 0 where
@@ -255,7 +255,7 @@ settled-shown (h ∷ hs) type e f =
     ap (spec.settled (map head_shown hs) e) (fun-shown h type e f) ∙ settled-shown hs (derived.fun_of h type) e (fun-ends h type ∙ f)
 
 group-shown : (o : Place) (types : TypeList) (c : Place) (simple : SimpleType) → derived.in_round o types c ≡ Some simple
-    → spec.spot_tree (spot_shown (derived.AtTypes o types c)) ≡ kept (simple_tree simple)
+    → spec.tail_tree (tail_shown (derived.AtTypes o types c)) ≡ kept (simple_tree simple)
 group-shown o (LastType a) c simple e = let h : InParentheses o a c ≡ simple = cc in only-kept (type_tree a) ∙ ap (λ s. kept (simple_tree s)) h
 group-shown o (MoreTypes a p (LastType b)) c simple e =
     let h : Pair o a p b c ≡ simple = cc in node-kept kind.TupleType [] _ _ _ ∙ ap (λ s. kept (simple_tree s)) h
@@ -263,15 +263,15 @@ group-shown o (MoreTypes a p (MoreTypes b q (LastType d))) c simple e =
     let h : Triple o a p b q d c ≡ simple = cc in node-kept kind.TupleType [] _ _ _ ∙ ap (λ s. kept (simple_tree s)) h
 group-shown o (MoreTypes a p (MoreTypes b q (MoreTypes d r types))) c simple e = cc
 
-pub spot-shown : (s : derived.Spot) (simple : SimpleType) → derived.simple_of s ≡ Some simple → spec.spot_tree (spot_shown s) ≡ kept (simple_tree simple)
-spot-shown (derived.AtPath path) simple e = let h : Named (OfPath path) ≡ simple = cc in path-type path ∙ ap (λ s. kept (simple_tree s)) h
-spot-shown (derived.AtNamed named) simple e = let h : Named named ≡ simple = cc in ap (λ s. kept (simple_tree s)) h
-spot-shown (derived.AtTypes o types c) simple e = group-shown o types c simple e
-spot-shown _ simple e = cc
+pub tail-shown : (s : derived.Tail) (simple : SimpleType) → derived.simple_of s ≡ Some simple → spec.tail_tree (tail_shown s) ≡ kept (simple_tree simple)
+tail-shown (derived.AtPath path) simple e = let h : Named (OfPath path) ≡ simple = cc in path-type path ∙ ap (λ s. kept (simple_tree s)) h
+tail-shown (derived.AtNamed named) simple e = let h : Named named ≡ simple = cc in ap (λ s. kept (simple_tree s)) h
+tail-shown (derived.AtTypes o types c) simple e = group-shown o types c simple e
+tail-shown _ simple e = cc
 
--- the type that ends at a spot is the one that was derived
-pub type-shown : (hs : List derived.Head) (s : derived.Spot) (simple : SimpleType) → derived.simple_of s ≡ Some simple
-    → spec.type_at (map head_shown hs) (spot_shown s) ≡ kept (type_tree (derived.settled hs (Simple simple)))
+-- the type that ends at a tail is the one that was derived
+pub type-shown : (hs : List derived.Head) (s : derived.Tail) (simple : SimpleType) → derived.simple_of s ≡ Some simple
+    → spec.type_at (map head_shown hs) (tail_shown s) ≡ kept (type_tree (derived.settled hs (Simple simple)))
 type-shown hs s simple e =
-    ap (spec.settled (map head_shown hs) (spec.spot_end (spot_shown s))) (spot-shown s simple e)
-    ∙ settled-shown hs (Simple simple) (spec.spot_end (spot_shown s)) (ap end_of (simple-tokens s simple e) ∙ spot-ends s simple e)
+    ap (spec.settled (map head_shown hs) (spec.tail_end (tail_shown s))) (tail-shown s simple e)
+    ∙ settled-shown hs (Simple simple) (spec.tail_end (tail_shown s)) (ap end_of (simple-tokens s simple e) ∙ tail-ends s simple e)

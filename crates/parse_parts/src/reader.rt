@@ -17,7 +17,7 @@ ghost use Rattle.parse_parts.specs.Words.{IsCut};
 use crate::built::Tall;
 use crate::parts::Part;
 use crate::stack::Stack;
-use crate::states::{Spot, State};
+use crate::states::{State, Tail};
 use crate::steps::{admits, advance, is_whole, type_at};
 use crate::symbols::read_symbol;
 use crate::words::word_in;
@@ -37,7 +37,7 @@ struct Reading {
 fn is_type(state: &State) -> bool
     ensures { result ≡ (reader).whole state.now }
 {
-    state.frames.is_empty() && is_whole(&state.spot)
+    state.frames.is_empty() && is_whole(&state.tail)
 }
 
 fn read(alloc: Global, text: &str, tokens: &[Token]) -> Result<Reading, NoMemory>
@@ -48,7 +48,7 @@ fn read(alloc: Global, text: &str, tokens: &[Token]) -> Result<Reading, NoMemory
     let mut state = State {
         frames: Stack::new(alloc),
         heads: Stack::new(alloc),
-        spot: Spot::Begin,
+        tail: Tail::Begin,
     };
     let mut reached = 0;
     let mut best = None;
@@ -125,7 +125,7 @@ fn parse(alloc: Global, text: &str, tokens: &[Token], at: u32) -> Result<Part, N
         None => Ok(Part::NotHere(at + reading.reached)),
         Some(count) => {
             let state = state_behind(alloc, text, tokens, reading, count)?;
-            let tall = type_at(alloc, state.heads, state.spot)?;
+            let tall = type_at(alloc, state.heads, state.tail)?;
             Ok(part_of(alloc, tall, at + count))
         }
     }

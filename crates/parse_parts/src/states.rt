@@ -41,7 +41,7 @@ pub struct Group {
 
 /// What was read since the last arrow, comma or opening bracket.
 #[derive(Debug, Drop)]
-pub enum Spot {
+pub enum Tail {
     Begin,
     AtPath(Path),
     AtDot(Path),
@@ -77,5 +77,5 @@ pub struct Frame {
 pub struct State {
     pub frames: Stack<Frame>,
     pub heads: Stack<Head>,
-    pub spot: Spot,
+    pub tail: Tail,
 }

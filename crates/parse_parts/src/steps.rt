@@ -7,7 +7,7 @@ ghost use Rattle.parse_parts.specs.Steps as spec;
 
 use crate::built::{Kids, Tall, joined, no_kids, node, only};
 use crate::stack::Stack;
-use crate::states::{Bracket, Count, Ended, Frame, Group, Head, Path, Spot, State};
+use crate::states::{Bracket, Count, Ended, Frame, Group, Head, Path, State, Tail};
 use crate::symbols::Symbol;
 use pc_terms::{NoMemory, Span, Text, TreeKind};
 use positioned_trees::Name;
@@ -82,45 +82,45 @@ fn group_tree(alloc: Global, group: Group) -> Option<Tall>
     }
 }
 
-pub fn spot_tree(alloc: Global, spot: Spot) -> Option<Tall>
-    ensures { result ≡ spec.spot_tree spot }
+pub fn tail_tree(alloc: Global, tail: Tail) -> Option<Tall>
+    ensures { result ≡ spec.tail_tree tail }
 {
-    match spot {
-        Spot::Begin | Spot::AtDot(_) => None,
-        Spot::AtPath(path) => path_type(path),
-        Spot::AtEnded(ended) => ended.tall,
-        Spot::AtGroup(group) => group_tree(alloc, group),
+    match tail {
+        Tail::Begin | Tail::AtDot(_) => None,
+        Tail::AtPath(path) => path_type(path),
+        Tail::AtEnded(ended) => ended.tall,
+        Tail::AtGroup(group) => group_tree(alloc, group),
     }
 }
 
-pub fn spot_end(spot: &Spot) -> u32
-    ensures { result ≡ spec.spot_end spot.now }
+pub fn tail_end(tail: &Tail) -> u32
+    ensures { result ≡ spec.tail_end tail.now }
 {
-    match spot {
-        Spot::Begin => 0,
-        Spot::AtPath(path) | Spot::AtDot(path) => path.name.span.end,
-        Spot::AtEnded(ended) => ended.span.end,
-        Spot::AtGroup(group) => group.span.end,
+    match tail {
+        Tail::Begin => 0,
+        Tail::AtPath(path) | Tail::AtDot(path) => path.name.span.end,
+        Tail::AtEnded(ended) => ended.span.end,
+        Tail::AtGroup(group) => group.span.end,
     }
 }
 
-fn head_at(alloc: Global, spot: Spot) -> Result<Head, NoMemory>
-    ensures { IfOk result (λ head. head ≡ spec.head_at spot) }
+fn head_at(alloc: Global, tail: Tail) -> Result<Head, NoMemory>
+    ensures { IfOk result (λ head. head ≡ spec.head_at tail) }
 {
-    match spot {
-        Spot::AtPath(path) => Ok(Head {
+    match tail {
+        Tail::AtPath(path) => Ok(Head {
             start: path.start,
             kids: alone(alloc, path_type(path))?,
         }),
-        Spot::AtEnded(ended) => Ok(Head {
+        Tail::AtEnded(ended) => Ok(Head {
             start: ended.span.start,
             kids: alone(alloc, ended.tall)?,
         }),
-        Spot::AtGroup(group) => Ok(Head {
+        Tail::AtGroup(group) => Ok(Head {
             start: group.span.start,
             kids: group.kids,
         }),
-        Spot::Begin | Spot::AtDot(_) => Ok(Head {
+        Tail::Begin | Tail::AtDot(_) => Ok(Head {
             start: 0,
             kids: None,
         }),
@@ -157,34 +157,34 @@ fn settled(
     Ok(tall)
 }
 
-/// The type that ends at a spot.
-pub fn type_at(alloc: Global, heads: Stack<Head>, spot: Spot) -> Result<Option<Tall>, NoMemory>
-    ensures { IfOk result (λ tall. tall ≡ spec.type_at heads spot) }
+/// The type that ends at a tail.
+pub fn type_at(alloc: Global, heads: Stack<Head>, tail: Tail) -> Result<Option<Tall>, NoMemory>
+    ensures { IfOk result (λ tall. tall ≡ spec.type_at heads tail) }
 {
-    let end = spot_end(&spot);
-    settled(alloc, heads, end, spot_tree(alloc, spot))
+    let end = tail_end(&tail);
+    settled(alloc, heads, end, tail_tree(alloc, tail))
 }
 
-pub fn is_whole(spot: &Spot) -> bool
-    ensures { result ≡ spec.is_whole spot.now }
+pub fn is_whole(tail: &Tail) -> bool
+    ensures { result ≡ spec.is_whole tail.now }
 {
-    match spot {
-        Spot::AtPath(_) | Spot::AtEnded(_) => true,
-        Spot::AtGroup(group) => matches!(group.count, Count::One | Count::Two | Count::Three),
-        Spot::Begin | Spot::AtDot(_) => false,
+    match tail {
+        Tail::AtPath(_) | Tail::AtEnded(_) => true,
+        Tail::AtGroup(group) => matches!(group.count, Count::One | Count::Two | Count::Three),
+        Tail::Begin | Tail::AtDot(_) => false,
     }
 }
 
 fn may_close_round(state: &State) -> bool
-    ensures { result ≡ spec.may_close_round state.now.spot (spec.first state.now.heads) (spec.first state.now.frames) }
+    ensures { result ≡ spec.may_close_round state.now.tail (spec.first state.now.heads) (spec.first state.now.frames) }
 {
     let Some(frame) = state.frames.top() else {
         return false
     };
     let round = matches!(frame.bracket, Bracket::Round(_));
-    match state.spot {
-        Spot::Begin => round && state.heads.top().is_none() && matches!(frame.count, Count::Zero),
-        _ => round && is_whole(&state.spot),
+    match state.tail {
+        Tail::Begin => round && state.heads.top().is_none() && matches!(frame.count, Count::Zero),
+        _ => round && is_whole(&state.tail),
     }
 }
 
@@ -193,31 +193,31 @@ pub fn admits(state: &State, symbol: Symbol) -> bool
     ensures { result ≡ spec.admits state.now symbol }
 {
     match symbol {
-        Symbol::Id => matches!(state.spot, Spot::Begin | Spot::AtDot(_)),
-        Symbol::OpenRound => matches!(state.spot, Spot::Begin),
+        Symbol::Id => matches!(state.tail, Tail::Begin | Tail::AtDot(_)),
+        Symbol::OpenRound => matches!(state.tail, Tail::Begin),
         Symbol::CloseRound => may_close_round(state),
-        Symbol::OpenSquare | Symbol::Dot => matches!(state.spot, Spot::AtPath(_)),
+        Symbol::OpenSquare | Symbol::Dot => matches!(state.tail, Tail::AtPath(_)),
         Symbol::CloseSquare => match state.frames.top() {
-            Some(frame) => matches!(frame.bracket, Bracket::Square(..)) && is_whole(&state.spot),
+            Some(frame) => matches!(frame.bracket, Bracket::Square(..)) && is_whole(&state.tail),
             None => false,
         },
-        Symbol::Comma => state.frames.top().is_some() && is_whole(&state.spot),
-        Symbol::Arrow => !matches!(state.spot, Spot::Begin | Spot::AtDot(_)),
-        Symbol::TypeWord => matches!(state.spot, Spot::AtDot(_)),
+        Symbol::Comma => state.frames.top().is_some() && is_whole(&state.tail),
+        Symbol::Arrow => !matches!(state.tail, Tail::Begin | Tail::AtDot(_)),
+        Symbol::TypeWord => matches!(state.tail, Tail::AtDot(_)),
         Symbol::Other => false,
     }
 }
 
 fn named(alloc: Global, state: State, span: Span, word: &str) -> Result<State, NoMemory>
-    ensures { IfOk result (λ next. next ≡ spec.at_spot state (spec.named word.now span state.spot)) }
+    ensures { IfOk result (λ next. next ≡ spec.at_tail state (spec.named word.now span state.tail)) }
 {
     let State {
         frames,
         heads,
-        spot,
+        tail,
     } = state;
-    let spot = match spot {
-        Spot::Begin => Spot::AtPath(Path {
+    let tail = match tail {
+        Tail::Begin => Tail::AtPath(Path {
             start: span.start,
             name: Name {
                 text: Text::new(alloc, word)?,
@@ -226,7 +226,7 @@ fn named(alloc: Global, state: State, span: Span, word: &str) -> Result<State, N
             qualified: false,
             prefix: no_kids(alloc),
         }),
-        Spot::AtDot(path) => Spot::AtPath(Path {
+        Tail::AtDot(path) => Tail::AtPath(Path {
             start: path.start,
             name: Name {
                 text: Text::new(alloc, word)?,
@@ -235,44 +235,44 @@ fn named(alloc: Global, state: State, span: Span, word: &str) -> Result<State, N
             qualified: true,
             prefix: alone(alloc, path_term(path))?,
         }),
-        spot => spot,
+        tail => tail,
     };
     Ok(State {
         frames,
         heads,
-        spot,
+        tail,
     })
 }
 
 fn dotted(state: State) -> State
-    ensures { result ≡ spec.at_spot state (spec.dotted state.spot) }
+    ensures { result ≡ spec.at_tail state (spec.dotted state.tail) }
 {
     let State {
         frames,
         heads,
-        spot,
+        tail,
     } = state;
-    let spot = match spot {
-        Spot::AtPath(path) => Spot::AtDot(path),
-        spot => spot,
+    let tail = match tail {
+        Tail::AtPath(path) => Tail::AtDot(path),
+        tail => tail,
     };
     State {
         frames,
         heads,
-        spot,
+        tail,
     }
 }
 
 fn singled(alloc: Global, state: State, span: Span) -> Result<State, NoMemory>
-    ensures { IfOk result (λ next. next ≡ spec.at_spot state (spec.singled span state.spot)) }
+    ensures { IfOk result (λ next. next ≡ spec.at_tail state (spec.singled span state.tail)) }
 {
     let State {
         frames,
         heads,
-        spot,
+        tail,
     } = state;
-    let spot = match spot {
-        Spot::AtDot(path) => {
+    let tail = match tail {
+        Tail::AtDot(path) => {
             let whole = Span {
                 start: path.start,
                 end: span.end,
@@ -280,17 +280,17 @@ fn singled(alloc: Global, state: State, span: Span) -> Result<State, NoMemory>
             let label = path.name.text.clone()?;
             let label_span = path.name.span;
             let kids = alone(alloc, path_term(path))?;
-            Spot::AtEnded(Ended {
+            Tail::AtEnded(Ended {
                 span: whole,
                 tall: node(TreeKind::Singleton, label, label_span, whole, kids),
             })
         }
-        spot => spot,
+        tail => tail,
     };
     Ok(State {
         frames,
         heads,
-        spot,
+        tail,
     })
 }
 
@@ -300,7 +300,7 @@ fn round_opened(alloc: Global, state: State, span: Span) -> Result<State, NoMemo
     let State {
         frames,
         heads,
-        spot: _,
+        tail: _,
     } = state;
     let mut frames = frames;
     frames.push(Frame {
@@ -312,21 +312,21 @@ fn round_opened(alloc: Global, state: State, span: Span) -> Result<State, NoMemo
     Ok(State {
         frames,
         heads: Stack::new(alloc),
-        spot: Spot::Begin,
+        tail: Tail::Begin,
     })
 }
 
 fn square_opened(alloc: Global, state: State) -> Result<State, NoMemory>
-    ensures { IfOk result (λ next. next ≡ spec.square_opened state.frames state.heads state.spot) }
+    ensures { IfOk result (λ next. next ≡ spec.square_opened state.frames state.heads state.tail) }
 {
     let State {
         frames,
         heads,
-        spot,
+        tail,
     } = state;
     let mut frames = frames;
-    match spot {
-        Spot::AtPath(path) => {
+    match tail {
+        Tail::AtPath(path) => {
             let name = Name {
                 text: path.name.text.clone()?,
                 span: path.name.span,
@@ -342,13 +342,13 @@ fn square_opened(alloc: Global, state: State) -> Result<State, NoMemory>
             Ok(State {
                 frames,
                 heads: Stack::new(alloc),
-                spot: Spot::Begin,
+                tail: Tail::Begin,
             })
         }
-        spot => Ok(State {
+        tail => Ok(State {
             frames,
             heads,
-            spot,
+            tail,
         }),
     }
 }
@@ -359,28 +359,28 @@ fn arrowed(alloc: Global, state: State) -> Result<State, NoMemory>
     let State {
         frames,
         heads,
-        spot,
+        tail,
     } = state;
     let mut heads = heads;
-    heads.push(head_at(alloc, spot)?)?;
+    heads.push(head_at(alloc, tail)?)?;
     Ok(State {
         frames,
         heads,
-        spot: Spot::Begin,
+        tail: Tail::Begin,
     })
 }
 
 fn parted(alloc: Global, state: State) -> Result<State, NoMemory>
-    ensures { IfOk result (λ next. next ≡ spec.parted state.frames state.heads state.spot) }
+    ensures { IfOk result (λ next. next ≡ spec.parted state.frames state.heads state.tail) }
 {
     let State {
         frames,
         heads,
-        spot,
+        tail,
     } = state;
     let mut frames = frames;
     if let Some(frame) = frames.pop() {
-        let kids = joined(frame.kids, type_at(alloc, heads, spot)?)?;
+        let kids = joined(frame.kids, type_at(alloc, heads, tail)?)?;
         frames.push(Frame {
             bracket: frame.bracket,
             count: counted(frame.count),
@@ -391,7 +391,7 @@ fn parted(alloc: Global, state: State) -> Result<State, NoMemory>
     Ok(State {
         frames,
         heads: Stack::new(alloc),
-        spot: Spot::Begin,
+        tail: Tail::Begin,
     })
 }
 
@@ -404,33 +404,33 @@ fn start_of(bracket: &Bracket) -> u32
 }
 
 fn round_closed(alloc: Global, state: State, end: u32) -> Result<State, NoMemory>
-    ensures { IfOk result (λ next. next ≡ spec.round_closed end state.frames state.heads state.spot) }
+    ensures { IfOk result (λ next. next ≡ spec.round_closed end state.frames state.heads state.tail) }
 {
     let State {
         frames,
         heads,
-        spot,
+        tail,
     } = state;
     let mut frames = frames;
     let Some(frame) = frames.pop() else {
         return Ok(State {
             frames,
             heads: Stack::new(alloc),
-            spot: Spot::Begin,
+            tail: Tail::Begin,
         });
     };
     let span = Span {
         start: start_of(&frame.bracket),
         end,
     };
-    let group = match spot {
-        Spot::Begin => Group {
+    let group = match tail {
+        Tail::Begin => Group {
             span,
             count: frame.count,
             kids: frame.kids,
         },
-        spot => {
-            let kids = joined(frame.kids, type_at(alloc, heads, spot)?)?;
+        tail => {
+            let kids = joined(frame.kids, type_at(alloc, heads, tail)?)?;
             Group {
                 span,
                 count: counted(frame.count),
@@ -441,7 +441,7 @@ fn round_closed(alloc: Global, state: State, end: u32) -> Result<State, NoMemory
     Ok(State {
         frames,
         heads: frame.heads,
-        spot: Spot::AtGroup(group),
+        tail: Tail::AtGroup(group),
     })
 }
 
@@ -464,26 +464,26 @@ fn applied(bracket: Bracket, end: u32, kids: Option<Kids>) -> Ended
 }
 
 fn square_closed(alloc: Global, state: State, end: u32) -> Result<State, NoMemory>
-    ensures { IfOk result (λ next. next ≡ spec.square_closed end state.frames state.heads state.spot) }
+    ensures { IfOk result (λ next. next ≡ spec.square_closed end state.frames state.heads state.tail) }
 {
     let State {
         frames,
         heads,
-        spot,
+        tail,
     } = state;
     let mut frames = frames;
     let Some(frame) = frames.pop() else {
         return Ok(State {
             frames,
             heads: Stack::new(alloc),
-            spot: Spot::Begin,
+            tail: Tail::Begin,
         });
     };
-    let kids = joined(frame.kids, type_at(alloc, heads, spot)?)?;
+    let kids = joined(frame.kids, type_at(alloc, heads, tail)?)?;
     Ok(State {
         frames,
         heads: frame.heads,
-        spot: Spot::AtEnded(applied(frame.bracket, end, kids)),
+        tail: Tail::AtEnded(applied(frame.bracket, end, kids)),
     })
 }
 

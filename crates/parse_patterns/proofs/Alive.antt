@@ -6,7 +6,7 @@ use Rattle.source_grammar.specs.Lexemes.{Place, Lexeme, close_round, close_squar
 use Rattle.source_grammar.specs.Types.{WrittenType, SimpleType, Simple, Named, OfPath, Applied, LastType}
 use Rattle.parse_parts.proofs.Seen.{seen, seen-id, seen-arrow}
 use Rattle.parse_parts.proofs.Derived as derived
-use Rattle.parse_parts.proofs.Derived.{Head, NamedHead, NoneHead, TypesHead, Spot, Begin, AtPath, AtDot, AtNamed, AtNone, AtTypes, Bracket, Round, Square, Done, Frame, State, settled, listed, longer, simple_of, head_of, step}
+use Rattle.parse_parts.proofs.Derived.{Head, NamedHead, NoneHead, TypesHead, Tail, Begin, AtPath, AtDot, AtNamed, AtNone, AtTypes, Bracket, Round, Square, Done, Frame, State, settled, listed, longer, simple_of, head_of, step}
 use Rattle.parse_parts.proofs.Along.{at, id-step, arrow-step}
 use Rattle.parse_patterns.proofs.Derived.{simple_in}
 use Rattle.parse_patterns.proofs.SimpleTypes.{goes, leaves, is_alone, is_begin, simple_step, can_be_simple, simple-can}
@@ -26,7 +26,7 @@ pub record Completed (s : State) : Type 0 where
   pub end : State
   pub simple : SimpleType
   pub runs : run simple_step others s ≡ Some end
-  pub ends : simple_in end.frames end.heads end.spot ≡ Some simple
+  pub ends : simple_in end.frames end.heads end.tail ≡ Some simple
 
 one-more : (x : Lexeme) (s t : State) → simple_step s x ≡ Some t → Completed t → Completed s
 one-more x s t e c = record {
@@ -37,22 +37,22 @@ one-more x s t e c = record {
   ends = c.ends;
 }
 
-stays : (x : Lexeme) (s t : State) → leaves (seen x) s.frames s.spot ≡ false → step s x ≡ Some t → simple_step s x ≡ Some t
+stays : (x : Lexeme) (s t : State) → leaves (seen x) s.frames s.tail ≡ false → step s x ≡ Some t → simple_step s x ≡ Some t
 stays x s t l e = ap (λ b. goes b (step s x)) l ∙ e
 
-id-stays : (fs : List Frame) (hs : List Head) (spot : Spot) (t : State) → derived.named_on an_id spot hs fs ≡ Some t → simple_step (at fs hs spot) (id_token an_id) ≡ Some t
-id-stays fs hs spot t e = stays (id_token an_id) (at fs hs spot) t (ap (λ y. leaves y fs spot) (seen-id an_id)) (id-step an_id (at fs hs spot) ∙ e)
+id-stays : (fs : List Frame) (hs : List Head) (tail : Tail) (t : State) → derived.named_on an_id tail hs fs ≡ Some t → simple_step (at fs hs tail) (id_token an_id) ≡ Some t
+id-stays fs hs tail t e = stays (id_token an_id) (at fs hs tail) t (ap (λ y. leaves y fs tail) (seen-id an_id)) (id-step an_id (at fs hs tail) ∙ e)
 
-arrow-stays : (f : Frame) (fs : List Frame) (hs : List Head) (spot : Spot) (h : Head) → head_of an_arrow spot ≡ Some h → simple_step (at (f ∷ fs) hs spot) (arrow_token an_arrow) ≡ Some (at (f ∷ fs) (h ∷ hs) Begin)
-arrow-stays f fs hs spot h e =
-    stays (arrow_token an_arrow) (at (f ∷ fs) hs spot) _ (ap (λ y. leaves y (f ∷ fs) spot) (seen-arrow an_arrow))
-    (arrow-step an_arrow (at (f ∷ fs) hs spot) ∙ ap (λ o. derived.pushed o hs (f ∷ fs)) e)
+arrow-stays : (f : Frame) (fs : List Frame) (hs : List Head) (tail : Tail) (h : Head) → head_of an_arrow tail ≡ Some h → simple_step (at (f ∷ fs) hs tail) (arrow_token an_arrow) ≡ Some (at (f ∷ fs) (h ∷ hs) Begin)
+arrow-stays f fs hs tail h e =
+    stays (arrow_token an_arrow) (at (f ∷ fs) hs tail) _ (ap (λ y. leaves y (f ∷ fs) tail) (seen-arrow an_arrow))
+    (arrow-step an_arrow (at (f ∷ fs) hs tail) ∙ ap (λ o. derived.pushed o hs (f ∷ fs)) e)
 
 then-path : (fs : List Frame) (hs : List Head) → ((hs : List Head) (path : QualId) → Completed (at fs hs (AtPath path))) → Completed (at fs hs Begin)
 then-path fs hs on = one-more (id_token an_id) _ _ (id-stays fs hs Begin _ refl) (on hs (record { first = an_id; steps = [] }))
 
--- where a bracket is open, each spot leads to a path in it
-inside : (f : Frame) (fs : List Frame) (hs : List Head) (spot : Spot) → ((hs : List Head) (path : QualId) → Completed (at (f ∷ fs) hs (AtPath path))) → Completed (at (f ∷ fs) hs spot)
+-- where a bracket is open, each tail leads to a path in it
+inside : (f : Frame) (fs : List Frame) (hs : List Head) (tail : Tail) → ((hs : List Head) (path : QualId) → Completed (at (f ∷ fs) hs (AtPath path))) → Completed (at (f ∷ fs) hs tail)
 inside f fs hs Begin on = then-path (f ∷ fs) hs on
 inside f fs hs (AtPath path) on = on hs path
 inside f fs hs (AtDot path d) on = one-more (id_token an_id) _ _ (id-stays (f ∷ fs) hs (AtDot path d) _ refl) (on hs (longer path d an_id))
@@ -64,7 +64,7 @@ inside f fs hs (AtTypes o types c) on =
     one-more (arrow_token an_arrow) _ _ (arrow-stays f fs hs (AtTypes o types c) (TypesHead o types c an_arrow) refl) (then-path (f ∷ fs) (TypesHead o types c an_arrow ∷ hs) on)
 
 -- a path outside, and what a bracket leaves there
-alone : (hs : List Head) (spot : Spot) → can_be_simple (at [] hs spot) ≡ true → is_begin spot ≡ false → ((path : QualId) (d : Place) → spot ≡ AtDot path d → ⊥) → Completed (at [] hs spot)
+alone : (hs : List Head) (tail : Tail) → can_be_simple (at [] hs tail) ≡ true → is_begin tail ≡ false → ((path : QualId) (d : Place) → tail ≡ AtDot path d → ⊥) → Completed (at [] hs tail)
 alone [] Begin c b n = cc
 alone [] (AtPath path) c b n = record { others = []; end = at [] [] (AtPath path); simple = Named (OfPath path); runs = refl; ends = refl }
 alone [] (AtDot path d) c b n = absurd (n path d refl)
@@ -74,7 +74,7 @@ alone [] (AtTypes o types d) c b n = go (derived.in_round o types d) refl c wher
   go : (s : Option SimpleType) → derived.in_round o types d ≡ s → derived.is_some s ≡ true → Completed (at [] [] (AtTypes o types d))
   go None e f = cc
   go (Some simple) e f = record { others = []; end = at [] [] (AtTypes o types d); simple = simple; runs = refl; ends = e }
-alone (h ∷ hs) spot c b n = cc
+alone (h ∷ hs) tail c b n = cc
 
 and-false : (b : Bool) → (b && false) ≡ false
 and-false true = refl
@@ -87,29 +87,29 @@ closed (f ∷ fs) hs path c = go f.bracket f.done f.heads c (λ outer p k. close
   type : WrittenType
   type = settled hs (Simple (Named (OfPath path)))
 
-  behind : (fs : List Frame) (outer : List Head) (spot : Spot) → can_be_simple (at fs outer spot) ≡ true → is_begin spot ≡ false → ((p : QualId) (d : Place) → spot ≡ AtDot p d → ⊥)
-      → ((outer : List Head) (p : QualId) → can_be_simple (at fs outer (AtPath p)) ≡ true → Completed (at fs outer (AtPath p))) → Completed (at fs outer spot)
-  behind [] outer spot k b n on = alone outer spot k b n
-  behind (g ∷ gs) outer spot k b n on = inside g gs outer spot (λ hs p. on hs p k)
+  behind : (fs : List Frame) (outer : List Head) (tail : Tail) → can_be_simple (at fs outer tail) ≡ true → is_begin tail ≡ false → ((p : QualId) (d : Place) → tail ≡ AtDot p d → ⊥)
+      → ((outer : List Head) (p : QualId) → can_be_simple (at fs outer (AtPath p)) ≡ true → Completed (at fs outer (AtPath p))) → Completed (at fs outer tail)
+  behind [] outer tail k b n on = alone outer tail k b n
+  behind (g ∷ gs) outer tail k b n on = inside g gs outer tail (λ hs p. on hs p k)
 
   go : (b : Bracket) (done : List Done) (outer : List Head) → can_be_simple (at (record { bracket = b; done = done; heads = outer } ∷ fs) hs (AtPath path)) ≡ true
       → ((outer : List Head) (p : QualId) → can_be_simple (at fs outer (AtPath p)) ≡ true → Completed (at fs outer (AtPath p)))
       → Completed (at (record { bracket = b; done = done; heads = outer } ∷ fs) hs (AtPath path))
   go (Round o) done outer k on =
       let here : State = at (record { bracket = Round o; done = done; heads = outer } ∷ fs) hs (AtPath path) in
-      let spot : Spot = AtTypes o (listed done (LastType type)) any_place in
-      let step : simple_step here (close_round any_place) ≡ Some (at fs outer spot) =
-      stays (close_round any_place) here (at fs outer spot) (and-false (is_alone (record { bracket = Round o; done = done; heads = outer } ∷ fs))) refl in
-      one-more (close_round any_place) _ (at fs outer spot) step
-      (behind fs outer spot (simple-can here (close_round any_place) (at fs outer spot) step k) refl (λ p d e. cc) on)
+      let tail : Tail = AtTypes o (listed done (LastType type)) any_place in
+      let step : simple_step here (close_round any_place) ≡ Some (at fs outer tail) =
+      stays (close_round any_place) here (at fs outer tail) (and-false (is_alone (record { bracket = Round o; done = done; heads = outer } ∷ fs))) refl in
+      one-more (close_round any_place) _ (at fs outer tail) step
+      (behind fs outer tail (simple-can here (close_round any_place) (at fs outer tail) step k) refl (λ p d e. cc) on)
   go (Square q o) done outer k on =
       let here : State = at (record { bracket = Square q o; done = done; heads = outer } ∷ fs) hs (AtPath path) in
-      let spot : Spot = AtNamed (Applied q o (listed done (LastType type)) any_place) in
-      let step : simple_step here (close_square any_place) ≡ Some (at fs outer spot) = stays (close_square any_place) here (at fs outer spot) refl refl in
-      one-more (close_square any_place) _ (at fs outer spot) step
-      (behind fs outer spot (simple-can here (close_square any_place) (at fs outer spot) step k) refl (λ p d e. cc) on)
+      let tail : Tail = AtNamed (Applied q o (listed done (LastType type)) any_place) in
+      let step : simple_step here (close_square any_place) ≡ Some (at fs outer tail) = stays (close_square any_place) here (at fs outer tail) refl refl in
+      one-more (close_square any_place) _ (at fs outer tail) step
+      (behind fs outer tail (simple-can here (close_square any_place) (at fs outer tail) step k) refl (λ p d e. cc) on)
 
-pub completed : (fs : List Frame) (hs : List Head) (spot : Spot) → can_be_simple (at fs hs spot) ≡ true → Completed (at fs hs spot)
+pub completed : (fs : List Frame) (hs : List Head) (tail : Tail) → can_be_simple (at fs hs tail) ≡ true → Completed (at fs hs tail)
 completed [] hs Begin c =
     one-more (id_token an_id) _ (at [] hs (AtPath (record { first = an_id; steps = [] }))) (id-stays [] hs Begin _ refl) (closed [] hs (record { first = an_id; steps = [] }) c)
 completed [] hs (AtDot path d) c =
@@ -118,4 +118,4 @@ completed [] hs (AtPath path) c = alone hs (AtPath path) c refl (λ p d e. cc)
 completed [] hs (AtNamed named) c = alone hs (AtNamed named) c refl (λ p d e. cc)
 completed [] hs (AtNone o k) c = alone hs (AtNone o k) c refl (λ p d e. cc)
 completed [] hs (AtTypes o types k) c = alone hs (AtTypes o types k) c refl (λ p d e. cc)
-completed (f ∷ fs) hs spot c = inside f fs hs spot (λ outer p. closed (f ∷ fs) outer p c)
+completed (f ∷ fs) hs tail c = inside f fs hs tail (λ outer p. closed (f ∷ fs) outer p c)

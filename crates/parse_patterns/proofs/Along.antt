@@ -10,12 +10,12 @@ use Rattle.source_grammar.specs.Patterns.{Pat, Pat1, Pat3, SPat, PatList, LastAl
 use Rattle.source_grammar.specs.Precedence.{are_of_one_side}
 use Rattle.source_grammar.specs.Types.{SimpleType, Named, OfPath, simple_tokens}
 use Rattle.parse_parts.proofs.Along as types_along
-use Rattle.parse_parts.proofs.Along.{simple_spot, simple-there}
+use Rattle.parse_parts.proofs.Along.{simple_tail, simple-there}
 use Rattle.parse_parts.proofs.Derived as types
 use Rattle.parse_parts.proofs.Derived.{longer}
 use Rattle.parse_patterns.specs.Names.{is_minus}
 use Rattle.parse_patterns.specs.Steps.{is_no}
-use Rattle.parse_patterns.proofs.Derived.{Operation, Binder, Done, Earlier, Spot, Begin, AtWild, AtPath, AtDot, AtEnded, Subject, VarSubject, WildSubject, Current, InType, InInfix, Call, Group, GroupOne, GroupTwo, Frame, State, settled, bound, alternated, listed, named_pat, spat_of, simple_in, typed_at, infix_at, alternative_at, pat_read, may_stand, when, at, fresh, frame_of, ended_at, parted, closed, ended, operated, behind, named, is_minus_path, moved, moved_in, shut, step, barred, has_none}
+use Rattle.parse_patterns.proofs.Derived.{Operation, Binder, Done, Earlier, Tail, Begin, AtWild, AtPath, AtDot, AtEnded, Subject, VarSubject, WildSubject, Current, InType, InInfix, Call, Group, GroupOne, GroupTwo, Frame, State, settled, bound, alternated, listed, named_pat, spat_of, simple_in, typed_at, infix_at, alternative_at, pat_read, may_stand, when, at, fresh, frame_of, ended_at, parted, closed, ended, operated, behind, named, is_minus_path, moved, moved_in, shut, step, barred, has_none}
 use Rattle.parse_patterns.proofs.Minus.{minus-var}
 use Rattle.parse_patterns.proofs.Seen.{AnId, AComma, ClosesRound, seen, seen-id, seen-number}
 use Rattle.parse_patterns.proofs.Sides.{operators_of, side-fits}
@@ -40,9 +40,9 @@ leads-one x s t e = leads-on x [] s t t e (leads-none t)
 pub leads-to : (ts : List Lexeme) (s t u : State) → t ≡ u → Leads ts s t → Leads ts s u
 leads-to ts s t u e p = record { runs = λ xs. p.runs xs ∙ ap (run step xs) e }
 
-pub id-step : (id : Id) (fs : List Frame) (es : List Earlier) (b : Option Binder) (os : List Operation) (spot : Spot)
-    → step (at fs es (InInfix b os spot)) (id_token id) ≡ named id b os spot es fs
-id-step id fs es b os spot = ap (λ y. moved y b os spot es fs) (seen-id id)
+pub id-step : (id : Id) (fs : List Frame) (es : List Earlier) (b : Option Binder) (os : List Operation) (tail : Tail)
+    → step (at fs es (InInfix b os tail)) (id_token id) ≡ named id b os tail es fs
+id-step id fs es b os tail = ap (λ y. moved y b os tail es fs) (seen-id id)
 
 pub when-true : {A : Type 0} (c : Bool) (a : A) → c ≡ true → when c a ≡ Some a
 when-true c a e = ap (λ b. when b a) e
@@ -73,13 +73,13 @@ path-along path fs es b os h =
 
 -- ---- where a pattern was read
 
-abbrev pub spat_spot : SPat → Spot
-spat_spot (WildPat place) = AtWild place
-spat_spot (VarPat id) = AtPath (record { first = id; steps = [] })
-spat_spot (PathPat path) = AtPath path
-spat_spot spat = AtEnded spat
+abbrev pub spat_tail : SPat → Tail
+spat_tail (WildPat place) = AtWild place
+spat_tail (VarPat id) = AtPath (record { first = id; steps = [] })
+spat_tail (PathPat path) = AtPath path
+spat_tail spat = AtEnded spat
 
-pub spat-there : (d : SPat) → ProperSPat d → spat_of (spat_spot d) ≡ Some d
+pub spat-there : (d : SPat) → ProperSPat d → spat_of (spat_tail d) ≡ Some d
 spat-there (WildPat place) p = refl
 spat-there (VarPat id) p = ap (λ v. Some (named_pat v (record { first = id; steps = [] }))) p
 spat-there (PathPat path) p = ap (λ v. Some (named_pat v path)) p
@@ -94,10 +94,10 @@ operations_of (LastOperand d) os = os
 operations_of (MoreOperands d id pat) os = operations_of pat (record { left = d; operator = id } ∷ os)
 
 abbrev pub after1 : Pat1 → Current
-after1 (TypedVar id point type) = InType (VarSubject id) point (types_along.at [] [] (simple_spot type))
-after1 (TypedWild place point type) = InType (WildSubject place) point (types_along.at [] [] (simple_spot type))
-after1 (BoundPat id sign pat) = InInfix (Some (record { id = id; sign = sign })) (operations_of pat []) (spat_spot (last_operand pat))
-after1 (InfixPat pat) = InInfix None (operations_of pat []) (spat_spot (last_operand pat))
+after1 (TypedVar id point type) = InType (VarSubject id) point (types_along.at [] [] (simple_tail type))
+after1 (TypedWild place point type) = InType (WildSubject place) point (types_along.at [] [] (simple_tail type))
+after1 (BoundPat id sign pat) = InInfix (Some (record { id = id; sign = sign })) (operations_of pat []) (spat_tail (last_operand pat))
+after1 (InfixPat pat) = InInfix None (operations_of pat []) (spat_tail (last_operand pat))
 
 abbrev pub last_pat1 : Pat → Pat1
 last_pat1 (LastAlternative pat) = pat
@@ -139,7 +139,7 @@ listed-there : (d : PatList) (done : List Done) → listed (done_of d done) (Las
 listed-there (LastPat pat) done = refl
 listed-there (MorePats pat p pats) done = listed-there pats (record { pat = pat; place = p } ∷ done)
 
-infix-there : (d : Pat3) (b : Option Binder) → ProperPat3 d → infix_at b (operations_of d []) (spat_of (spat_spot (last_operand d))) ≡ Some (bound b d)
+infix-there : (d : Pat3) (b : Option Binder) → ProperPat3 d → infix_at b (operations_of d []) (spat_of (spat_tail (last_operand d))) ≡ Some (bound b d)
 infix-there d b p = ap (infix_at b (operations_of d [])) (spat-there (last_operand d) (proper-last d p)) ∙ ap (λ x. Some (bound b x)) (settled-there d [])
 
 pub alternative-there : (d : Pat1) → ProperPat1 d → alternative_at (after1 d) ≡ Some d
@@ -151,23 +151,23 @@ alternative-there (InfixPat pat) p = infix-there pat None p.1
 -- ---- what stands behind a pattern
 
 -- a Simple goes on with none of the tokens that may stand behind it
-type-comma : (type : SimpleType) (c : Place) → simple_step (types_along.at [] [] (simple_spot type)) (comma c) ≡ None
+type-comma : (type : SimpleType) (c : Place) → simple_step (types_along.at [] [] (simple_tail type)) (comma c) ≡ None
 type-comma type c = ap (λ o. types.parted c o [] []) (simple-there type)
 
-type-bar : (type : SimpleType) (c : Place) → simple_step (types_along.at [] [] (simple_spot type)) (bar c) ≡ None
+type-bar : (type : SimpleType) (c : Place) → simple_step (types_along.at [] [] (simple_tail type)) (bar c) ≡ None
 type-bar (Named (OfPath path)) c = refl
 type-bar (Named _) c = refl
 type-bar _ c = refl
 
 name-behind : (d : SPat) (id : Id) (fs : List Frame) (es : List Earlier) (b : Option Binder) (os : List Operation)
-    → named id b os (spat_spot d) es fs ≡ behind id b os (spat_of (spat_spot d)) es fs
+    → named id b os (spat_tail d) es fs ≡ behind id b os (spat_of (spat_tail d)) es fs
 name-behind (WildPat place) id fs es b os = refl
 name-behind (VarPat i) id fs es b os = refl
 name-behind (PathPat path) id fs es b os = refl
 name-behind _ id fs es b os = refl
 
 shut-behind : (d : SPat) (c : Place) (fs : List Frame) (es : List Earlier) (b : Option Binder) (os : List Operation)
-    → shut c b os (spat_spot d) es fs ≡ ended (ClosesRound c) (infix_at b os (spat_of (spat_spot d))) es fs
+    → shut c b os (spat_tail d) es fs ≡ ended (ClosesRound c) (infix_at b os (spat_of (spat_tail d))) es fs
 shut-behind (WildPat place) c fs es b os = refl
 shut-behind (VarPat i) c fs es b os = refl
 shut-behind (PathPat path) c fs es b os = refl
@@ -175,10 +175,10 @@ shut-behind _ c fs es b os = refl
 
 comma-behind : (d : Pat1) (c : Place) (fs : List Frame) (es : List Earlier) → ProperPat1 d → step (at fs es (after1 d)) (comma c) ≡ parted c (pat_read es d) fs
 comma-behind (TypedVar id point type) c fs es p =
-    ap (λ o. moved_in o (VarSubject id) point (typed_at (VarSubject id) point (types.simple_of (simple_spot type))) (AComma c) es fs) (type-comma type c)
+    ap (λ o. moved_in o (VarSubject id) point (typed_at (VarSubject id) point (types.simple_of (simple_tail type))) (AComma c) es fs) (type-comma type c)
     ∙ ap (λ o. ended (AComma c) (typed_at (VarSubject id) point o) es fs) (simple-there type)
 comma-behind (TypedWild place point type) c fs es p =
-    ap (λ o. moved_in o (WildSubject place) point (typed_at (WildSubject place) point (types.simple_of (simple_spot type))) (AComma c) es fs) (type-comma type c)
+    ap (λ o. moved_in o (WildSubject place) point (typed_at (WildSubject place) point (types.simple_of (simple_tail type))) (AComma c) es fs) (type-comma type c)
     ∙ ap (λ o. ended (AComma c) (typed_at (WildSubject place) point o) es fs) (simple-there type)
 comma-behind (BoundPat id sign pat) c fs es p = ap (λ o. ended (AComma c) o es fs) (infix-there pat (Some (record { id = id; sign = sign })) p.3)
 comma-behind (InfixPat pat) c fs es p = ap (λ o. ended (AComma c) o es fs) (infix-there pat None p.1)
@@ -196,7 +196,7 @@ abbrev bar_id : Place → Id
 bar_id c = record { name = codes "|"; quoted = false; place = c }
 
 infix-bar : (d : Pat3) (c : Place) (fs : List Frame) (es : List Earlier) (b : Option Binder) → ProperPat3 d → c.before ≡ No
-    → named (bar_id c) b (operations_of d []) (spat_spot (last_operand d)) es fs ≡ Some (barred c (bound b d) es fs)
+    → named (bar_id c) b (operations_of d []) (spat_tail (last_operand d)) es fs ≡ Some (barred c (bound b d) es fs)
 infix-bar d c fs es b p n =
     name-behind (last_operand d) (bar_id c) fs es b (operations_of d [])
     ∙ ap (λ o. behind (bar_id c) b (operations_of d []) o es fs) (spat-there (last_operand d) (proper-last d p))
@@ -205,11 +205,11 @@ infix-bar d c fs es b p n =
 
 bar-behind : (d : Pat1) (c : Place) (fs : List Frame) (es : List Earlier) → ProperPat1 d → c.before ≡ No → step (at fs es (after1 d)) (bar c) ≡ Some (barred c d es fs)
 bar-behind (TypedVar id point type) c fs es p n =
-    ap (λ o. moved_in o (VarSubject id) point (typed_at (VarSubject id) point (types.simple_of (simple_spot type))) (AnId (bar_id c)) es fs) (type-bar type c)
+    ap (λ o. moved_in o (VarSubject id) point (typed_at (VarSubject id) point (types.simple_of (simple_tail type))) (AnId (bar_id c)) es fs) (type-bar type c)
     ∙ ap (λ o. ended (AnId (bar_id c)) (typed_at (VarSubject id) point o) es fs) (simple-there type)
     ∙ when-true _ _ (no-newline c.before n)
 bar-behind (TypedWild place point type) c fs es p n =
-    ap (λ o. moved_in o (WildSubject place) point (typed_at (WildSubject place) point (types.simple_of (simple_spot type))) (AnId (bar_id c)) es fs) (type-bar type c)
+    ap (λ o. moved_in o (WildSubject place) point (typed_at (WildSubject place) point (types.simple_of (simple_tail type))) (AnId (bar_id c)) es fs) (type-bar type c)
     ∙ ap (λ o. ended (AnId (bar_id c)) (typed_at (WildSubject place) point o) es fs) (simple-there type)
     ∙ when-true _ _ (no-newline c.before n)
 bar-behind (BoundPat id sign pat) c fs es p n = infix-bar pat c fs es (Some (record { id = id; sign = sign })) p.3 n
@@ -294,13 +294,13 @@ type-leads (x ∷ xs) s point fs es t u e = go (simple_step t x) refl e (λ v r.
   go None was g on = cc
   go (Some v) was g on =
       leads-on x xs _ (at fs es (InType s point v)) _
-      (ap (λ o. moved_in o s point (typed_at s point (simple_in t.frames t.heads t.spot)) (seen x) es fs) was) (on v g)
+      (ap (λ o. moved_in o s point (typed_at s point (simple_in t.frames t.heads t.tail)) (seen x) es fs) was) (on v g)
 
 -- ---- along a derivation
 
 mutual
   pub spat-along : (d : SPat) → ProperSPat d → (fs : List Frame) (es : List Earlier) (b : Option Binder) (os : List Operation) → may_stand b os es (newline_before (spat_tokens d)) ≡ true
-      → Leads (spat_tokens d) (at fs es (InInfix b os Begin)) (at fs es (InInfix b os (spat_spot d)))
+      → Leads (spat_tokens d) (at fs es (InInfix b os Begin)) (at fs es (InInfix b os (spat_tail d)))
   spat-along (WildPat place) p fs es b os h = leads-one (underscore place) _ _ (when-true _ _ h)
   spat-along (VarPat id) p fs es b os h = leads-one (id_token id) _ _ (id-step id fs es b os Begin ∙ when-true _ _ h)
   spat-along (LiteralPat l) p fs es b os h = leads-one (literal_token l) _ _ (literal-along l fs es b os h)
@@ -340,13 +340,13 @@ mutual
 
   pub pat3-along : (d : Pat3) → ProperPat3 d → (fs : List Frame) (es : List Earlier) (b : Option Binder) (os : List Operation) → may_stand b os es (newline_before (pat3_tokens d)) ≡ true
       → are_of_one_side (operators_of os ++ pat3_operators d) ≡ true
-      → Leads (pat3_tokens d) (at fs es (InInfix b os Begin)) (at fs es (InInfix b (operations_of d os) (spat_spot (last_operand d))))
+      → Leads (pat3_tokens d) (at fs es (InInfix b os Begin)) (at fs es (InInfix b (operations_of d os) (spat_tail (last_operand d))))
   pat3-along (LastOperand x) p fs es b os h one = spat-along x p fs es b os h
   pat3-along (MoreOperands x id pat) p fs es b os h one =
-      leads-then (spat_tokens x) _ _ (at fs es (InInfix b os (spat_spot x))) _
+      leads-then (spat_tokens x) _ _ (at fs es (InInfix b os (spat_tail x))) _
       (spat-along x p.0 fs es b os (subst (λ n. may_stand b os es n ≡ true) (front-newline x (id_token id ∷ pat3_tokens pat)) h))
       (leads-on (id_token id) _ _ (at fs es (InInfix b (record { left = x; operator = id } ∷ os) Begin)) _
-      (id-step id fs es b os (spat_spot x) ∙ name-behind x id fs es b os
+      (id-step id fs es b os (spat_tail x) ∙ name-behind x id fs es b os
       ∙ ap (λ o. behind id b os o es fs) (spat-there x p.0)
       ∙ ap (λ k. if k then operated (is_bar id) id b os x es fs else None) (no-newline id.place.before p.2)
       ∙ ap (λ k. operated k id b os x es fs) p.1

@@ -23,7 +23,7 @@ use Rattle.parse_patterns.proofs.Sides.{operators_of}
 use Rattle.parse_patterns.proofs.Sizes.{pat-size}
 
 ended-shown : (c : derived.Current) → is_ended (current_shown c) ≡ is_some (alternative_at c)
-ended-shown (derived.InType s p t) = simple-shown t ∙ sym (some-typed s p (simple_in t.frames t.heads t.spot))
+ended-shown (derived.InType s p t) = simple-shown t ∙ sym (some-typed s p (simple_in t.frames t.heads t.tail))
 ended-shown (derived.InInfix b os s) = whole-shown s ∙ sym (some-infix b os (spat_of s))
 
 reader-whole : (s : derived.State) → (reader).whole (shown s) ≡ derived.whole_at s.frames s.current

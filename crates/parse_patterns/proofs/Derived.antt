@@ -37,12 +37,12 @@ pub record Earlier : Type 0 where
   pub stroke : Place
 
 -- what was read since the last operator, stroke, comma or opening bracket
-pub data Spot : Type 0 where
-  Begin : Spot
-  AtWild : Place → Spot
-  AtPath : QualId → Spot
-  AtDot : QualId → Place → Spot
-  AtEnded : SPat → Spot
+pub data Tail : Type 0 where
+  Begin : Tail
+  AtWild : Place → Tail
+  AtPath : QualId → Tail
+  AtDot : QualId → Place → Tail
+  AtEnded : SPat → Tail
 
 -- what stands before `:`
 pub data Subject : Type 0 where
@@ -52,7 +52,7 @@ pub data Subject : Type 0 where
 -- the alternative that is read: a type behind `:`, or operations, the last one first
 pub data Current : Type 0 where
   InType : Subject → (point : Place) → types.State → Current
-  InInfix : Option Binder → List Operation → Spot → Current
+  InInfix : Option Binder → List Operation → Tail → Current
 
 pub data Bracket : Type 0 where
   Call : QualId → Place → List Done → Bracket
@@ -98,16 +98,16 @@ abbrev pub named_pat : Bool → QualId → SPat
 named_pat true path = VarPat path.first
 named_pat false path = PathPat path
 
-abbrev pub spat_of : Spot → Option SPat
+abbrev pub spat_of : Tail → Option SPat
 spat_of (AtWild place) = Some (WildPat place)
 spat_of (AtPath path) = Some (named_pat (is_var_path path.first path.steps) path)
 spat_of (AtEnded spat) = Some spat
 spat_of _ = None
 
 -- the Simple that was read, where no bracket is open
-abbrev pub simple_in : List types.Frame → List types.Head → types.Spot → Option SimpleType
-simple_in [] [] spot = types.simple_of spot
-simple_in _ _ spot = None
+abbrev pub simple_in : List types.Frame → List types.Head → types.Tail → Option SimpleType
+simple_in [] [] tail = types.simple_of tail
+simple_in _ _ tail = None
 
 abbrev pub typed_at : Subject → Place → Option SimpleType → Option Pat1
 typed_at s point None = None
@@ -118,8 +118,8 @@ infix_at b os None = None
 infix_at b os (Some spat) = Some (bound b (settled os (LastOperand spat)))
 
 abbrev pub alternative_at : Current → Option Pat1
-alternative_at (InType s point t) = typed_at s point (simple_in t.frames t.heads t.spot)
-alternative_at (InInfix b os spot) = infix_at b os (spat_of spot)
+alternative_at (InType s point t) = typed_at s point (simple_in t.frames t.heads t.tail)
+alternative_at (InInfix b os tail) = infix_at b os (spat_of tail)
 
 abbrev pub pat_read : List Earlier → Pat1 → Pat
 pat_read es pat = alternated es (LastAlternative pat)
@@ -220,30 +220,30 @@ abbrev pub behind : Id → Option Binder → List Operation → Option SPat → 
 behind id b os None es fs = None
 behind id b os (Some spat) es fs = if is_no id.place.before then operated (is_bar id) id b os spat es fs else None
 
-abbrev pub named : Id → Option Binder → List Operation → Spot → List Earlier → List Frame → Option State
+abbrev pub named : Id → Option Binder → List Operation → Tail → List Earlier → List Frame → Option State
 named id b os Begin es fs = when (may_stand b os es id.place.before) (at fs es (InInfix b os (AtPath (record { first = id; steps = [] }))))
 named id b os (AtDot path d) es fs = Some (at fs es (InInfix b os (AtPath (longer path d id))))
-named id b os spot es fs = behind id b os (spat_of spot) es fs
+named id b os tail es fs = behind id b os (spat_of tail) es fs
 
 abbrev pub is_minus_path : QualId → Bool
 is_minus_path path = has_none path.steps && (not (is_var_path path.first path.steps) && is_minus path.first)
 
 -- at the beginning of a pattern
-abbrev pub started : Newline → Option Binder → List Operation → Spot → Spot → List Earlier → List Frame → Option State
-started before b os Begin spot es fs = when (may_stand b os es before) (at fs es (InInfix b os spot))
-started before b os _ spot es fs = None
+abbrev pub started : Newline → Option Binder → List Operation → Tail → Tail → List Earlier → List Frame → Option State
+started before b os Begin tail es fs = when (may_stand b os es before) (at fs es (InInfix b os tail))
+started before b os _ tail es fs = None
 
-abbrev pub numbered : Number → Option Binder → List Operation → Spot → List Earlier → List Frame → Option State
+abbrev pub numbered : Number → Option Binder → List Operation → Tail → List Earlier → List Frame → Option State
 numbered n b os Begin es fs = started n.place.before b os Begin (AtEnded (LiteralPat (literal_of n))) es fs
 numbered n b os (AtPath path) es fs = when (is_minus_path path && is_no n.place.before) (at fs es (InInfix b os (AtEnded (MinusPat path.first.place n))))
 numbered n b os _ es fs = None
 
-abbrev pub coloned : Place → Option Binder → List Operation → Spot → List Earlier → List Frame → Option State
+abbrev pub coloned : Place → Option Binder → List Operation → Tail → List Earlier → List Frame → Option State
 coloned p b os (AtWild place) es fs = when (is_fresh b os) (at fs es (InType (WildSubject place) p type_begun))
 coloned p b os (AtPath path) es fs = when (is_var_path path.first path.steps && is_fresh b os) (at fs es (InType (VarSubject path.first) p type_begun))
 coloned p b os _ es fs = None
 
-abbrev pub signed : Place → Option Binder → List Operation → Spot → List Earlier → List Frame → Option State
+abbrev pub signed : Place → Option Binder → List Operation → Tail → List Earlier → List Frame → Option State
 signed p b os (AtPath path) es fs =
     when (is_var_path path.first path.steps && (is_fresh b os && is_no p.before)) (at fs es (InInfix (Some (record { id = path.first; sign = p })) [] Begin))
 signed p b os _ es fs = None
@@ -251,39 +251,39 @@ signed p b os _ es fs = None
 abbrev pub frame_of : Bracket → Option Binder → List Operation → List Earlier → Frame
 frame_of bracket b os es = record { bracket = bracket; earlier = es; binder = b; operations = os }
 
-abbrev pub opened : Place → Option Binder → List Operation → Spot → List Earlier → List Frame → Option State
+abbrev pub opened : Place → Option Binder → List Operation → Tail → List Earlier → List Frame → Option State
 opened o b os Begin es fs = when (may_stand b os es o.before) (at (frame_of (Group o) b os es ∷ fs) [] fresh)
 opened o b os (AtPath path) es fs = when (is_no o.before) (at (frame_of (Call path o []) b os es ∷ fs) [] fresh)
 opened o b os _ es fs = None
 
-abbrev pub shut : Place → Option Binder → List Operation → Spot → List Earlier → List Frame → Option State
+abbrev pub shut : Place → Option Binder → List Operation → Tail → List Earlier → List Frame → Option State
 shut c b os Begin es fs = if is_fresh b os && has_none es then emptied c fs else None
-shut c b os spot es fs = ended (ClosesRound c) (infix_at b os (spat_of spot)) es fs
+shut c b os tail es fs = ended (ClosesRound c) (infix_at b os (spat_of tail)) es fs
 
-abbrev pub dotted : Place → Option Binder → List Operation → Spot → List Earlier → List Frame → Option State
+abbrev pub dotted : Place → Option Binder → List Operation → Tail → List Earlier → List Frame → Option State
 dotted d b os (AtPath path) es fs = Some (at fs es (InInfix b os (AtDot path d)))
 dotted d b os _ es fs = None
 
-abbrev pub moved : Seen → Option Binder → List Operation → Spot → List Earlier → List Frame → Option State
-moved (AnId id) b os spot es fs = named id b os spot es fs
-moved (ANumber n) b os spot es fs = numbered n b os spot es fs
-moved (ALiteral l) b os spot es fs = started ((literal_place l).before) b os spot (AtEnded (LiteralPat l)) es fs
-moved (AnUnderscore p) b os spot es fs = started p.before b os spot (AtWild p) es fs
-moved (AColon p) b os spot es fs = coloned p b os spot es fs
-moved (AnAt p) b os spot es fs = signed p b os spot es fs
-moved (OpensRound o) b os spot es fs = opened o b os spot es fs
-moved (ClosesRound c) b os spot es fs = shut c b os spot es fs
-moved (AComma c) b os spot es fs = ended (AComma c) (infix_at b os (spat_of spot)) es fs
-moved (ADot d) b os spot es fs = dotted d b os spot es fs
-moved (Another x) b os spot es fs = None
+abbrev pub moved : Seen → Option Binder → List Operation → Tail → List Earlier → List Frame → Option State
+moved (AnId id) b os tail es fs = named id b os tail es fs
+moved (ANumber n) b os tail es fs = numbered n b os tail es fs
+moved (ALiteral l) b os tail es fs = started ((literal_place l).before) b os tail (AtEnded (LiteralPat l)) es fs
+moved (AnUnderscore p) b os tail es fs = started p.before b os tail (AtWild p) es fs
+moved (AColon p) b os tail es fs = coloned p b os tail es fs
+moved (AnAt p) b os tail es fs = signed p b os tail es fs
+moved (OpensRound o) b os tail es fs = opened o b os tail es fs
+moved (ClosesRound c) b os tail es fs = shut c b os tail es fs
+moved (AComma c) b os tail es fs = ended (AComma c) (infix_at b os (spat_of tail)) es fs
+moved (ADot d) b os tail es fs = dotted d b os tail es fs
+moved (Another x) b os tail es fs = None
 
 abbrev pub moved_in : Option types.State → Subject → Place → Option Pat1 → Seen → List Earlier → List Frame → Option State
 moved_in (Some t) s point pat y es fs = Some (at fs es (InType s point t))
 moved_in None s point pat y es fs = ended y pat es fs
 
 abbrev pub step_at : Current → Lexeme → List Earlier → List Frame → Option State
-step_at (InType s point t) x es fs = moved_in (simple_step t x) s point (typed_at s point (simple_in t.frames t.heads t.spot)) (seen x) es fs
-step_at (InInfix b os spot) x es fs = moved (seen x) b os spot es fs
+step_at (InType s point t) x es fs = moved_in (simple_step t x) s point (typed_at s point (simple_in t.frames t.heads t.tail)) (seen x) es fs
+step_at (InInfix b os tail) x es fs = moved (seen x) b os tail es fs
 
 abbrev pub step : State → Lexeme → Option State
 step s x = step_at s.current x s.earlier s.frames
@@ -301,12 +301,12 @@ machine = record {
 
 -- ---- the tokens of what was read
 
-abbrev pub spot_tokens : Spot → List Lexeme
-spot_tokens Begin = []
-spot_tokens (AtWild place) = underscore place ∷ []
-spot_tokens (AtPath path) = qual_id_tokens path
-spot_tokens (AtDot path d) = qual_id_tokens path ++ dot d ∷ []
-spot_tokens (AtEnded spat) = spat_tokens spat
+abbrev pub tail_tokens : Tail → List Lexeme
+tail_tokens Begin = []
+tail_tokens (AtWild place) = underscore place ∷ []
+tail_tokens (AtPath path) = qual_id_tokens path
+tail_tokens (AtDot path d) = qual_id_tokens path ++ dot d ∷ []
+tail_tokens (AtEnded spat) = spat_tokens spat
 
 abbrev pub operations_tokens : List Operation → List Lexeme
 operations_tokens [] = []
@@ -322,7 +322,7 @@ subject_tokens (WildSubject place) point = underscore place ∷ colon point ∷ 
 
 abbrev pub current_tokens : Current → List Lexeme
 current_tokens (InType s point t) = subject_tokens s point ++ type_tokens_in t
-current_tokens (InInfix b os spot) = binder_tokens b ++ (operations_tokens os ++ spot_tokens spot)
+current_tokens (InInfix b os tail) = binder_tokens b ++ (operations_tokens os ++ tail_tokens tail)
 
 abbrev pub earlier_tokens : List Earlier → List Lexeme
 earlier_tokens [] = []

@@ -14,7 +14,7 @@ use Rattle.parse_parts.proofs.Seen as types_seen
 use Rattle.parse_parts.specs.Parting.{IsSomePart}
 use Rattle.parse_patterns.proofs.Alive.{any_place, an_id, Completed, completed}
 use Rattle.parse_patterns.proofs.Along.{Leads, leads-none, leads-then, leads-one, id-step, when-true, type-leads, earlier_of, last_pat1, after, proper-last1, alternated-there, alternative-there, pat-along}
-use Rattle.parse_patterns.proofs.Derived.{Operation, Binder, Earlier, Spot, Begin, AtWild, AtPath, AtDot, AtEnded, Subject, Current, InType, InInfix, Frame, State, simple_in, typed_at, alternative_at, pat_read, may_stand, at, ended_at, closed_as, ended, moved_in, step, whole_at, machine, tokens_in, earlier_tokens}
+use Rattle.parse_patterns.proofs.Derived.{Operation, Binder, Earlier, Tail, Begin, AtWild, AtPath, AtDot, AtEnded, Subject, Current, InType, InInfix, Frame, State, simple_in, typed_at, alternative_at, pat_read, may_stand, at, ended_at, closed_as, ended, moved_in, step, whole_at, machine, tokens_in, earlier_tokens}
 use Rattle.parse_patterns.proofs.Good.{Good, GoodCurrent, ready, proper-read, run-good, start-good}
 use Rattle.parse_patterns.proofs.Seen.{ClosesRound}
 use Rattle.parse_patterns.proofs.SimpleTypes.{goes, leaves}
@@ -71,7 +71,7 @@ any-stands None [] [] = refl
 any-stands None [] (e ∷ es) = refl
 any-stands (Some b) [] es = refl
 
-revived-infix : (fs : List Frame) (es : List Earlier) (b : Option Binder) (os : List Operation) (spot : Spot) → Revived fs (at fs es (InInfix b os spot))
+revived-infix : (fs : List Frame) (es : List Earlier) (b : Option Binder) (os : List Operation) (tail : Tail) → Revived fs (at fs es (InInfix b os tail))
 revived-infix fs es b os Begin = record {
   others = underscore any_place ∷ [];
   earlier = es;
@@ -105,27 +105,27 @@ revived-type fs es s point t c = record {
 revived : (s : State) → Good s → Revived s.frames s
 revived s g = go s.current g.current where
   go : (current : Current) → GoodCurrent s.earlier current → Revived s.frames (at s.frames s.earlier current)
-  go (InType subject point t) h = revived-type s.frames s.earlier subject point t (completed t.frames t.heads t.spot h.can)
-  go (InInfix b os spot) h = revived-infix s.frames s.earlier b os spot
+  go (InType subject point t) h = revived-type s.frames s.earlier subject point t (completed t.frames t.heads t.tail h.can)
+  go (InInfix b os tail) h = revived-infix s.frames s.earlier b os tail
 
 join : (fs gs : List Frame) (xs : List Lexeme) (s t : State) → Leads xs s t → Revived gs t → Revived gs s
 join fs gs xs s t l r = record { others = xs ++ r.others; earlier = r.earlier; current = r.current; last = r.last; leads = leads-then xs r.others s t _ l r.leads; ends = r.ends }
 
 -- an alternative that ends can be followed by the end of its bracket
 simple-closes : (t : types.State) (s : Subject) (point : Place) (fs : List types.Frame) (hs : List types.Head) (type : SimpleType) (es : List Earlier) (gs : List Frame) → t.frames ≡ fs
-    → simple_in fs hs t.spot ≡ Some type → step (at gs es (InType s point t)) (close_round any_place) ≡ ended (ClosesRound any_place) (alternative_at (InType s point t)) es gs
+    → simple_in fs hs t.tail ≡ Some type → step (at gs es (InType s point t)) (close_round any_place) ≡ ended (ClosesRound any_place) (alternative_at (InType s point t)) es gs
 simple-closes t s point [] hs type es gs f e =
     ap (λ o. moved_in o s point (alternative_at (InType s point t)) (ClosesRound any_place) es gs) (none t.frames f)
   where
-    none : (fs : List types.Frame) → fs ≡ [] → goes (leaves (types_seen.ClosesRound any_place) fs t.spot) (types.round_ended any_place t.spot t.heads fs) ≡ None
+    none : (fs : List types.Frame) → fs ≡ [] → goes (leaves (types_seen.ClosesRound any_place) fs t.tail) (types.round_ended any_place t.tail t.heads fs) ≡ None
     none [] g = refl
     none (k ∷ fs) g = cc
 simple-closes t s point (k ∷ fs) hs type es gs f e = cc
 
 close-step : (current : Current) (d : Pat1) (es : List Earlier) (gs : List Frame) → alternative_at current ≡ Some d
     → step (at gs es current) (close_round any_place) ≡ ended (ClosesRound any_place) (Some d) es gs
-close-step (InType s point t) d es gs e = go (simple_in t.frames t.heads t.spot) refl e where
-  go : (o : Option SimpleType) → simple_in t.frames t.heads t.spot ≡ o → typed_at s point o ≡ Some d → step (at gs es (InType s point t)) (close_round any_place) ≡ ended (ClosesRound any_place) (Some d) es gs
+close-step (InType s point t) d es gs e = go (simple_in t.frames t.heads t.tail) refl e where
+  go : (o : Option SimpleType) → simple_in t.frames t.heads t.tail ≡ o → typed_at s point o ≡ Some d → step (at gs es (InType s point t)) (close_round any_place) ≡ ended (ClosesRound any_place) (Some d) es gs
   go None was f = cc
   go (Some type) was f = simple-closes t s point t.frames t.heads type es gs refl was ∙ ap (λ o. ended (ClosesRound any_place) o es gs) e
 close-step (InInfix b os Begin) d es gs e = cc

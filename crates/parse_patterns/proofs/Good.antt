@@ -13,7 +13,7 @@ use Rattle.parse_parts.proofs.Derived.{longer}
 use Rattle.parse_patterns.specs.Steps.{is_no}
 use Rattle.parse_patterns.proofs.Along.{front-newline}
 use Rattle.parse_patterns.proofs.Begun.{Begins, Some_begins, some-append, some-behind, spat-begins, pat1-begins, stands, stands-first, stands-front}
-use Rattle.parse_patterns.proofs.Derived.{Operation, Binder, Done, Earlier, Spot, Begin, AtWild, AtPath, AtDot, AtEnded, Subject, VarSubject, WildSubject, Current, InType, InInfix, Bracket, Call, Group, GroupOne, GroupTwo, Frame, State, settled, bound, typed, alternated, listed, named_pat, spat_of, simple_in, typed_at, infix_at, alternative_at, pat_read, may_stand, fits, when, at, fresh, framed, parted_in, closed_as, closed, emptied_as, emptied_in, barred, ended_by, ended, operated, behind, named, is_minus_path, started, numbered, coloned, signed, opened, shut, dotted, moved, moved_in, step_at, step, spot_tokens, operations_tokens, binder_tokens, subject_tokens, bracket_tokens}
+use Rattle.parse_patterns.proofs.Derived.{Operation, Binder, Done, Earlier, Tail, Begin, AtWild, AtPath, AtDot, AtEnded, Subject, VarSubject, WildSubject, Current, InType, InInfix, Bracket, Call, Group, GroupOne, GroupTwo, Frame, State, settled, bound, typed, alternated, listed, named_pat, spat_of, simple_in, typed_at, infix_at, alternative_at, pat_read, may_stand, fits, when, at, fresh, framed, parted_in, closed_as, closed, emptied_as, emptied_in, barred, ended_by, ended, operated, behind, named, is_minus_path, started, numbered, coloned, signed, opened, shut, dotted, moved, moved_in, step_at, step, tail_tokens, operations_tokens, binder_tokens, subject_tokens, bracket_tokens}
 use Rattle.parse_patterns.proofs.Seen.{Seen, AnId, ANumber, ALiteral, AnUnderscore, AColon, AnAt, OpensRound, ClosesRound, AComma, ADot, Another, seen, literal_of, number-literal}
 use Rattle.parse_patterns.proofs.Sides.{operators_of, fits-side}
 use Rattle.parse_patterns.proofs.SimpleTypes.{simple_step, can_be_simple, simple-can}
@@ -44,9 +44,9 @@ pub record GoodLevel (es : List Earlier) (b : Option Binder) (os : List Operatio
   pub binder : GoodBinder b
   pub earlier : GoodEarlier es
 
-abbrev pub GoodSpot : Spot → Type 0
-GoodSpot (AtEnded d) = ProperSPat d
-GoodSpot _ = Unit {0}
+abbrev pub GoodTail : Tail → Type 0
+GoodTail (AtEnded d) = ProperSPat d
+GoodTail _ = Unit {0}
 
 abbrev pub GoodSubject : Subject → Type 0
 GoodSubject (VarSubject id) = is_var id ≡ true
@@ -58,13 +58,13 @@ pub record GoodTyped (es : List Earlier) (s : Subject) (point : Place) (t : type
   pub earlier : GoodEarlier es
   pub can : can_be_simple t ≡ true
 
-pub record GoodInfix (es : List Earlier) (b : Option Binder) (os : List Operation) (spot : Spot) : Type 0 where
-  pub level : GoodLevel es b os (spot_tokens spot)
-  pub spot_is : GoodSpot spot
+pub record GoodInfix (es : List Earlier) (b : Option Binder) (os : List Operation) (tail : Tail) : Type 0 where
+  pub level : GoodLevel es b os (tail_tokens tail)
+  pub tail_is : GoodTail tail
 
 abbrev pub GoodCurrent : List Earlier → Current → Type 0
 GoodCurrent es (InType s point t) = GoodTyped es s point t
-GoodCurrent es (InInfix b os spot) = GoodInfix es b os spot
+GoodCurrent es (InInfix b os tail) = GoodInfix es b os tail
 
 abbrev pub GoodDone : List Done → Type 0
 GoodDone [] = Unit {0}
@@ -114,11 +114,11 @@ proper-named : (path : QualId) (v : Bool) → is_var_path path.first path.steps 
 proper-named path true e = var-is path e
 proper-named path false e = e
 
-proper-spot : (spot : Spot) (d : SPat) → GoodSpot spot → spat_of spot ≡ Some d → ProperSPat d
-proper-spot (AtWild place) d g e = (let h : WildPat place ≡ d = cc in subst ProperSPat h tt)
-proper-spot (AtPath path) d g e = (let h : named_pat (is_var_path path.first path.steps) path ≡ d = cc in subst ProperSPat h (proper-named path _ refl))
-proper-spot (AtEnded x) d g e = (let h : x ≡ d = cc in subst ProperSPat h g)
-proper-spot _ d g e = cc
+proper-tail : (tail : Tail) (d : SPat) → GoodTail tail → spat_of tail ≡ Some d → ProperSPat d
+proper-tail (AtWild place) d g e = (let h : WildPat place ≡ d = cc in subst ProperSPat h tt)
+proper-tail (AtPath path) d g e = (let h : named_pat (is_var_path path.first path.steps) path ≡ d = cc in subst ProperSPat h (proper-named path _ refl))
+proper-tail (AtEnded x) d g e = (let h : x ≡ d = cc in subst ProperSPat h g)
+proper-tail _ d g e = cc
 
 pub settled-operators : (os : List Operation) (d : Pat3) → pat3_operators (settled os d) ≡ operators_of os ++ pat3_operators d
 settled-operators [] d = refl
@@ -127,12 +127,12 @@ settled-operators (o ∷ os) d = settled-operators os (MoreOperands o.left o.ope
 -- ---- what ends
 
 -- the alternative that is read
-proper-infix : (es : List Earlier) (b : Option Binder) (os : List Operation) (spot : Spot) (d : SPat) → GoodInfix es b os spot → spat_of spot ≡ Some d
+proper-infix : (es : List Earlier) (b : Option Binder) (os : List Operation) (tail : Tail) (d : SPat) → GoodInfix es b os tail → spat_of tail ≡ Some d
     → ProperPat1 (bound b (settled os (LastOperand d)))
-proper-infix es b os spot d g e = go b g.level.binder where
+proper-infix es b os tail d g e = go b g.level.binder where
   whole : ProperPat3 (settled os (LastOperand d))
-  whole = g.level.operations.proper (LastOperand d) (proper-spot spot d g.spot_is e)
-      (stands-near b os es (spat_tokens d) (ap (stands b os es) (spat-tokens spot d e) ∙ g.level.here))
+  whole = g.level.operations.proper (LastOperand d) (proper-tail tail d g.tail_is e)
+      (stands-near b os es (spat_tokens d) (ap (stands b os es) (spat-tokens tail d e) ∙ g.level.here))
 
   one : are_of_one_side (pat3_operators (settled os (LastOperand d))) ≡ true
   one = ap are_of_one_side (settled-operators os (LastOperand d) ∙ append-nil (operators_of os)) ∙ g.level.operations.one_side
@@ -155,20 +155,20 @@ subject-front (VarSubject id) point type es h = h
 subject-front (WildSubject place) point type es h = h
 
 pub ready : (es : List Earlier) (current : Current) (d : Pat1) → GoodCurrent es current → alternative_at current ≡ Some d → Ready es d
-ready es (InType s point t) d g e = go (simple_in t.frames t.heads t.spot) e where
+ready es (InType s point t) d g e = go (simple_in t.frames t.heads t.tail) e where
   go : (o : Option SimpleType) → typed_at s point o ≡ Some d → Ready es d
   go None f = cc
   go (Some type) f =
       let h : typed s point type ≡ d = cc in
       subst (Ready es) h (record { proper = proper-typed s point type g.subject; front = subject-front s point type es g.front; earlier = g.earlier })
-ready es (InInfix b os spot) d g e = go (spat_of spot) refl e where
-  go : (o : Option SPat) → spat_of spot ≡ o → infix_at b os o ≡ Some d → Ready es d
+ready es (InInfix b os tail) d g e = go (spat_of tail) refl e where
+  go : (o : Option SPat) → spat_of tail ≡ o → infix_at b os o ≡ Some d → Ready es d
   go None was f = cc
   go (Some x) was f =
       let h : bound b (settled os (LastOperand x)) ≡ d = cc in
       subst (Ready es) h (record {
-        proper = proper-infix es b os spot x g was;
-        front = ap (stands None [] es) (bound-tokens b os x ∙ ap (λ xs. binder_tokens b ++ (operations_tokens os ++ xs)) (spat-tokens spot x was)) ∙ g.level.front;
+        proper = proper-infix es b os tail x g was;
+        front = ap (stands None [] es) (bound-tokens b os x ∙ ap (λ xs. binder_tokens b ++ (operations_tokens os ++ xs)) (spat-tokens tail x was)) ∙ g.level.front;
         earlier = g.level.earlier;
       })
 
@@ -182,7 +182,7 @@ good-none : GoodOperations []
 good-none = record { one_side = refl; proper = λ d p n. p }
 
 good-fresh : (es : List Earlier) → GoodEarlier es → GoodCurrent es fresh
-good-fresh es g = record { level = record { here = refl; front = refl; operations = good-none; binder = tt; earlier = g }; spot_is = tt }
+good-fresh es g = record { level = record { here = refl; front = refl; operations = good-none; binder = tt; earlier = g }; tail_is = tt }
 
 no-earlier : GoodEarlier []
 no-earlier d p h = p
@@ -227,23 +227,23 @@ operations-more os d id g p near k n f = record {
   proper = λ pat q after. g.proper (MoreOperands d id pat) (p, k, n, after, q) (subst (NearIf os) (sym (front-newline d (id_token id ∷ pat3_tokens pat))) near);
 }
 
-level-more : (es : List Earlier) (b : Option Binder) (os : List Operation) (spot : Spot) (d : SPat) (id : Id) → GoodInfix es b os spot → spat_of spot ≡ Some d → is_bar id ≡ false
+level-more : (es : List Earlier) (b : Option Binder) (os : List Operation) (tail : Tail) (d : SPat) (id : Id) → GoodInfix es b os tail → spat_of tail ≡ Some d → is_bar id ≡ false
     → is_no id.place.before ≡ true → fits os id ≡ true → GoodInfix es b (record { left = d; operator = id } ∷ os) Begin
-level-more es b os spot d id g e k n f =
-    let there : stands b os es (spat_tokens d) ≡ true = ap (stands b os es) (spat-tokens spot d e) ∙ g.level.here in
+level-more es b os tail d id g e k n f =
+    let there : stands b os es (spat_tokens d) ≡ true = ap (stands b os es) (spat-tokens tail d e) ∙ g.level.here in
     let front : stands None [] es (binder_tokens b ++ (operations_tokens os ++ spat_tokens d)) ≡ true =
-    ap (λ xs. stands None [] es (binder_tokens b ++ (operations_tokens os ++ xs))) (spat-tokens spot d e) ∙ g.level.front in
+    ap (λ xs. stands None [] es (binder_tokens b ++ (operations_tokens os ++ xs))) (spat-tokens tail d e) ∙ g.level.front in
     record {
       level = record {
         here = refl;
         front = ap (stands None [] es) (go (binder_tokens b) (operations_tokens os) (spat_tokens d))
             ∙ stands-front None [] es (binder_tokens b ++ (operations_tokens os ++ spat_tokens d)) (id_token id ∷ [])
             (some-behind (binder_tokens b) _ (some-behind (operations_tokens os) _ (spat-begins d))) front;
-        operations = operations-more os d id g.level.operations (proper-spot spot d g.spot_is e) (stands-near b os es (spat_tokens d) there) k (is-no id.place.before n) f;
+        operations = operations-more os d id g.level.operations (proper-tail tail d g.tail_is e) (stands-near b os es (spat_tokens d) there) k (is-no id.place.before n) f;
         binder = g.level.binder;
         earlier = g.level.earlier;
       };
-      spot_is = tt;
+      tail_is = tt;
     }
   where
     go : (x y z : List Lexeme) → x ++ ((y ++ (z ++ id_token id ∷ [])) ++ []) ≡ (x ++ (y ++ z)) ++ id_token id ∷ []
@@ -295,7 +295,7 @@ closed-good c pat (f ∷ fs) g p =
       frames = g.1;
       current = record {
         level = level-same f.earlier f.binder f.operations b.0 _ _ b.1 b.2 g.0.level;
-        spot_is = closed-proper c pat f.bracket g.0.bracket p;
+        tail_is = closed-proper c pat f.bracket g.0.bracket p;
       };
     })
 
@@ -333,41 +333,41 @@ ended-good y current (Some d) es fs e g h = ended-by-good y d es fs g (ready es 
 
 -- ---- one token after the other
 
-started-good : (x : Lexeme) (n : Newline) (b : Option Binder) (os : List Operation) (spot next : Spot) (es : List Earlier) (fs : List Frame) → spot_tokens next ≡ x ∷ [] → x.place.before ≡ n
-    → GoodSpot next → GoodFrames fs → GoodInfix es b os spot → GoodOr (started n b os spot next es fs)
+started-good : (x : Lexeme) (n : Newline) (b : Option Binder) (os : List Operation) (tail next : Tail) (es : List Earlier) (fs : List Frame) → tail_tokens next ≡ x ∷ [] → x.place.before ≡ n
+    → GoodTail next → GoodFrames fs → GoodInfix es b os tail → GoodOr (started n b os tail next es fs)
 started-good x n b os Begin next es fs e m k g i = or-when _ _ (λ h. record {
   frames = g;
-  current = record { level = subst (GoodLevel es b os) (sym e) (level-first es b os x [] i.level (ap (may_stand b os es) m ∙ h)); spot_is = k };
+  current = record { level = subst (GoodLevel es b os) (sym e) (level-first es b os x [] i.level (ap (may_stand b os es) m ∙ h)); tail_is = k };
 })
 started-good x n b os _ next es fs e m k g i = or-none
 
-operated-good : (k : Bool) (id : Id) (b : Option Binder) (os : List Operation) (spot : Spot) (d : SPat) (es : List Earlier) (fs : List Frame) → is_bar id ≡ k → spat_of spot ≡ Some d
-    → is_no id.place.before ≡ true → GoodFrames fs → GoodInfix es b os spot → GoodOr (operated k id b os d es fs)
-operated-good true id b os spot d es fs k e n g i =
-    or-some _ (barred-good id.place _ es fs g (ready es (InInfix b os spot) _ i (ap (infix_at b os) e)) n)
-operated-good false id b os spot d es fs k e n g i = or-when _ _ (λ h. record { frames = g; current = level-more es b os spot d id i e k n h })
+operated-good : (k : Bool) (id : Id) (b : Option Binder) (os : List Operation) (tail : Tail) (d : SPat) (es : List Earlier) (fs : List Frame) → is_bar id ≡ k → spat_of tail ≡ Some d
+    → is_no id.place.before ≡ true → GoodFrames fs → GoodInfix es b os tail → GoodOr (operated k id b os d es fs)
+operated-good true id b os tail d es fs k e n g i =
+    or-some _ (barred-good id.place _ es fs g (ready es (InInfix b os tail) _ i (ap (infix_at b os) e)) n)
+operated-good false id b os tail d es fs k e n g i = or-when _ _ (λ h. record { frames = g; current = level-more es b os tail d id i e k n h })
 
-behind-good : (id : Id) (b : Option Binder) (os : List Operation) (spot : Spot) (o : Option SPat) (es : List Earlier) (fs : List Frame) → spat_of spot ≡ o
-    → GoodFrames fs → GoodInfix es b os spot → GoodOr (behind id b os o es fs)
-behind-good id b os spot None es fs e g i = or-none
-behind-good id b os spot (Some d) es fs e g i = go (is_no id.place.before) refl where
+behind-good : (id : Id) (b : Option Binder) (os : List Operation) (tail : Tail) (o : Option SPat) (es : List Earlier) (fs : List Frame) → spat_of tail ≡ o
+    → GoodFrames fs → GoodInfix es b os tail → GoodOr (behind id b os o es fs)
+behind-good id b os tail None es fs e g i = or-none
+behind-good id b os tail (Some d) es fs e g i = go (is_no id.place.before) refl where
   go : (n : Bool) → is_no id.place.before ≡ n → GoodOr (if n then operated (is_bar id) id b os d es fs else None)
-  go true n = operated-good (is_bar id) id b os spot d es fs refl e n g i
+  go true n = operated-good (is_bar id) id b os tail d es fs refl e n g i
   go false n = or-none
 
-named-good : (id : Id) (b : Option Binder) (os : List Operation) (spot : Spot) (es : List Earlier) (fs : List Frame) → GoodFrames fs → GoodInfix es b os spot → GoodOr (named id b os spot es fs)
+named-good : (id : Id) (b : Option Binder) (os : List Operation) (tail : Tail) (es : List Earlier) (fs : List Frame) → GoodFrames fs → GoodInfix es b os tail → GoodOr (named id b os tail es fs)
 named-good id b os Begin es fs g i =
-    or-when _ _ (λ h. record { frames = g; current = record { level = level-first es b os (id_token id) [] i.level h; spot_is = tt } })
+    or-when _ _ (λ h. record { frames = g; current = record { level = level-first es b os (id_token id) [] i.level h; tail_is = tt } })
 named-good id b os (AtDot path d) es fs g i = or-some _ (record {
   frames = g;
   current = record {
     level = level-same es b os (id_token path.first) _ _ (record { rest = _; is = refl }) (record { rest = _; is = refl }) i.level;
-    spot_is = tt;
+    tail_is = tt;
   };
 })
-named-good id b os spot es fs g i = behind-good id b os spot (spat_of spot) es fs refl g i
+named-good id b os tail es fs g i = behind-good id b os tail (spat_of tail) es fs refl g i
 
-numbered-good : (n : Number) (b : Option Binder) (os : List Operation) (spot : Spot) (es : List Earlier) (fs : List Frame) → GoodFrames fs → GoodInfix es b os spot → GoodOr (numbered n b os spot es fs)
+numbered-good : (n : Number) (b : Option Binder) (os : List Operation) (tail : Tail) (es : List Earlier) (fs : List Frame) → GoodFrames fs → GoodInfix es b os tail → GoodOr (numbered n b os tail es fs)
 numbered-good n b os Begin es fs g i =
     started-good (literal_token (literal_of n)) n.place.before b os Begin (AtEnded (LiteralPat (literal_of n))) es fs refl (ap (λ x. x.place.before) (number-literal n)) tt g i
 numbered-good n b os (AtPath path) es fs g i = or-when _ _ (λ h.
@@ -377,12 +377,12 @@ numbered-good n b os (AtPath path) es fs g i = or-when _ _ (λ h.
       current = record {
         level = level-same es b os (id_token path.first) _ _ (record { rest = _; is = refl })
             (record { rest = _; is = ap (λ x. x ∷ number_token n ∷ []) (minus-token path k.0) }) i.level;
-        spot_is = is-no n.place.before k.1;
+        tail_is = is-no n.place.before k.1;
       };
     })
 numbered-good n b os _ es fs g i = or-none
 
-coloned-good : (p : Place) (b : Option Binder) (os : List Operation) (spot : Spot) (es : List Earlier) (fs : List Frame) → GoodFrames fs → GoodInfix es b os spot → GoodOr (coloned p b os spot es fs)
+coloned-good : (p : Place) (b : Option Binder) (os : List Operation) (tail : Tail) (es : List Earlier) (fs : List Frame) → GoodFrames fs → GoodInfix es b os tail → GoodOr (coloned p b os tail es fs)
 coloned-good p None [] (AtWild place) es fs g i =
     or-some _ (record { frames = g; current = record { subject = tt; front = i.level.front; earlier = i.level.earlier; can = refl } })
 coloned-good p None (o ∷ os) (AtWild place) es fs g i = or-none
@@ -395,21 +395,21 @@ coloned-good p None (o ∷ os) (AtPath path) es fs g i = or-when _ _ (λ h. (let
 coloned-good p (Some b) os (AtPath path) es fs g i = or-when _ _ (λ h. (let k = (both (is_var_path path.first path.steps) false h).1 in cc))
 coloned-good p b os _ es fs g i = or-none
 
-signed-good : (p : Place) (b : Option Binder) (os : List Operation) (spot : Spot) (es : List Earlier) (fs : List Frame) → GoodFrames fs → GoodInfix es b os spot → GoodOr (signed p b os spot es fs)
+signed-good : (p : Place) (b : Option Binder) (os : List Operation) (tail : Tail) (es : List Earlier) (fs : List Frame) → GoodFrames fs → GoodInfix es b os tail → GoodOr (signed p b os tail es fs)
 signed-good p None [] (AtPath path) es fs g i = or-when _ _ (λ h.
     let k = both (is_var_path path.first path.steps) (is_no p.before) h in
     record {
       frames = g;
       current = record {
         level = record { here = refl; front = i.level.front; operations = good-none; binder = (var-is path k.0, is-no p.before k.1); earlier = i.level.earlier };
-        spot_is = tt;
+        tail_is = tt;
       };
     })
 signed-good p None (o ∷ os) (AtPath path) es fs g i = or-when _ _ (λ h. (let k = (both (is_var_path path.first path.steps) false h).1 in cc))
 signed-good p (Some b) os (AtPath path) es fs g i = or-when _ _ (λ h. (let k = (both (is_var_path path.first path.steps) false h).1 in cc))
 signed-good p b os _ es fs g i = or-none
 
-opened-good : (o : Place) (b : Option Binder) (os : List Operation) (spot : Spot) (es : List Earlier) (fs : List Frame) → GoodFrames fs → GoodInfix es b os spot → GoodOr (opened o b os spot es fs)
+opened-good : (o : Place) (b : Option Binder) (os : List Operation) (tail : Tail) (es : List Earlier) (fs : List Frame) → GoodFrames fs → GoodInfix es b os tail → GoodOr (opened o b os tail es fs)
 opened-good o b os Begin es fs g i = or-when _ _ (λ h. record {
   frames = (record { level = level-first es b os (open_round o) [] i.level h; bracket = tt }, g);
   current = good-fresh [] no-earlier;
@@ -431,7 +431,7 @@ emptied-in-good c (Call path o []) f fs e g h = or-some _ (record {
   frames = h;
   current = record {
     level = level-same f.earlier f.binder f.operations (id_token path.first) _ _ (record { rest = _; is = ap bracket_tokens e }) (record { rest = _; is = refl }) g.level;
-    spot_is = (let b : GoodBracket (Call path o []) = subst GoodBracket e g.bracket in b.0);
+    tail_is = (let b : GoodBracket (Call path o []) = subst GoodBracket e g.bracket in b.0);
   };
 })
 emptied-in-good c (Call path o (d ∷ done)) f fs e g h = or-none
@@ -439,38 +439,38 @@ emptied-in-good c (Group o) f fs e g h = or-some _ (record {
   frames = h;
   current = record {
     level = level-same f.earlier f.binder f.operations (open_round o) _ _ (record { rest = _; is = ap bracket_tokens e }) (record { rest = _; is = refl }) g.level;
-    spot_is = tt;
+    tail_is = tt;
   };
 })
 emptied-in-good c _ f fs e g h = or-none
 
-shut-good : (c : Place) (b : Option Binder) (os : List Operation) (spot : Spot) (es : List Earlier) (fs : List Frame) → GoodFrames fs → GoodInfix es b os spot → GoodOr (shut c b os spot es fs)
+shut-good : (c : Place) (b : Option Binder) (os : List Operation) (tail : Tail) (es : List Earlier) (fs : List Frame) → GoodFrames fs → GoodInfix es b os tail → GoodOr (shut c b os tail es fs)
 shut-good c None [] Begin [] [] g i = or-none
 shut-good c None [] Begin [] (f ∷ fs) g i = emptied-in-good c f.bracket f fs refl g.0 g.1
 shut-good c None [] Begin (e ∷ es) fs g i = or-none
 shut-good c None (o ∷ os) Begin es fs g i = or-none
 shut-good c (Some b) os Begin es fs g i = or-none
-shut-good c b os spot es fs g i = ended-good (ClosesRound c) (InInfix b os spot) _ es fs refl g i
+shut-good c b os tail es fs g i = ended-good (ClosesRound c) (InInfix b os tail) _ es fs refl g i
 
-dotted-good : (d : Place) (b : Option Binder) (os : List Operation) (spot : Spot) (es : List Earlier) (fs : List Frame) → GoodFrames fs → GoodInfix es b os spot → GoodOr (dotted d b os spot es fs)
+dotted-good : (d : Place) (b : Option Binder) (os : List Operation) (tail : Tail) (es : List Earlier) (fs : List Frame) → GoodFrames fs → GoodInfix es b os tail → GoodOr (dotted d b os tail es fs)
 dotted-good d b os (AtPath path) es fs g i = or-some _ (record {
   frames = g;
-  current = record { level = level-same es b os (id_token path.first) _ _ (record { rest = _; is = refl }) (record { rest = _; is = refl }) i.level; spot_is = tt };
+  current = record { level = level-same es b os (id_token path.first) _ _ (record { rest = _; is = refl }) (record { rest = _; is = refl }) i.level; tail_is = tt };
 })
 dotted-good d b os _ es fs g i = or-none
 
-moved-good : (y : Seen) (b : Option Binder) (os : List Operation) (spot : Spot) (es : List Earlier) (fs : List Frame) → GoodFrames fs → GoodInfix es b os spot → GoodOr (moved y b os spot es fs)
-moved-good (AnId id) b os spot es fs g i = named-good id b os spot es fs g i
-moved-good (ANumber n) b os spot es fs g i = numbered-good n b os spot es fs g i
-moved-good (ALiteral l) b os spot es fs g i = started-good (literal_token l) _ b os spot _ es fs refl refl tt g i
-moved-good (AnUnderscore p) b os spot es fs g i = started-good (underscore p) _ b os spot _ es fs refl refl tt g i
-moved-good (AColon p) b os spot es fs g i = coloned-good p b os spot es fs g i
-moved-good (AnAt p) b os spot es fs g i = signed-good p b os spot es fs g i
-moved-good (OpensRound o) b os spot es fs g i = opened-good o b os spot es fs g i
-moved-good (ClosesRound c) b os spot es fs g i = shut-good c b os spot es fs g i
-moved-good (AComma c) b os spot es fs g i = ended-good (AComma c) (InInfix b os spot) _ es fs refl g i
-moved-good (ADot d) b os spot es fs g i = dotted-good d b os spot es fs g i
-moved-good (Another x) b os spot es fs g i = or-none
+moved-good : (y : Seen) (b : Option Binder) (os : List Operation) (tail : Tail) (es : List Earlier) (fs : List Frame) → GoodFrames fs → GoodInfix es b os tail → GoodOr (moved y b os tail es fs)
+moved-good (AnId id) b os tail es fs g i = named-good id b os tail es fs g i
+moved-good (ANumber n) b os tail es fs g i = numbered-good n b os tail es fs g i
+moved-good (ALiteral l) b os tail es fs g i = started-good (literal_token l) _ b os tail _ es fs refl refl tt g i
+moved-good (AnUnderscore p) b os tail es fs g i = started-good (underscore p) _ b os tail _ es fs refl refl tt g i
+moved-good (AColon p) b os tail es fs g i = coloned-good p b os tail es fs g i
+moved-good (AnAt p) b os tail es fs g i = signed-good p b os tail es fs g i
+moved-good (OpensRound o) b os tail es fs g i = opened-good o b os tail es fs g i
+moved-good (ClosesRound c) b os tail es fs g i = shut-good c b os tail es fs g i
+moved-good (AComma c) b os tail es fs g i = ended-good (AComma c) (InInfix b os tail) _ es fs refl g i
+moved-good (ADot d) b os tail es fs g i = dotted-good d b os tail es fs g i
+moved-good (Another x) b os tail es fs g i = or-none
 
 typed-good : (t : types.State) (x : Lexeme) (s : Subject) (point : Place) (es : List Earlier) (fs : List Frame) (o : Option types.State) → simple_step t x ≡ o → GoodFrames fs → GoodTyped es s point t
     → GoodOr (moved_in o s point (alternative_at (InType s point t)) (seen x) es fs)
@@ -480,7 +480,7 @@ typed-good t x s point es fs (Some u) e g i =
 
 step-at-good : (current : Current) (x : Lexeme) (es : List Earlier) (fs : List Frame) → GoodFrames fs → GoodCurrent es current → GoodOr (step_at current x es fs)
 step-at-good (InType s point t) x es fs g i = typed-good t x s point es fs (simple_step t x) refl g i
-step-at-good (InInfix b os spot) x es fs g i = moved-good (seen x) b os spot es fs g i
+step-at-good (InInfix b os tail) x es fs g i = moved-good (seen x) b os tail es fs g i
 
 pub step-good : (s : State) (x : Lexeme) (t : State) → Good s → step s x ≡ Some t → Good t
 step-good s x t g e = step-at-good s.current x s.earlier s.frames g.frames g.current t e

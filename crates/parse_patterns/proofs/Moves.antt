@@ -32,8 +32,8 @@ use Rattle.parse_patterns.specs.declared.states.Current.TheVariants as current
 use Rattle.parse_patterns.specs.declared.states.Lead.{Lead}
 use Rattle.parse_patterns.specs.declared.states.Lead.TheVariants as lead
 use Rattle.parse_patterns.specs.declared.states.Infix.{Infix}
-use Rattle.parse_patterns.specs.declared.states.Spot.{Spot}
-use Rattle.parse_patterns.specs.declared.states.Spot.TheVariants as spot
+use Rattle.parse_patterns.specs.declared.states.Tail.{Tail}
+use Rattle.parse_patterns.specs.declared.states.Tail.TheVariants as tail
 use Rattle.parse_patterns.specs.declared.states.State.{State}
 use Rattle.parse_patterns.specs.declared.symbols.Symbol.{Symbol}
 use Rattle.parse_patterns.specs.declared.symbols.Symbol.TheVariants as symbol
@@ -48,7 +48,7 @@ use Rattle.parse_patterns.proofs.Derived as derived
 use Rattle.parse_patterns.proofs.Derived.{spat_of, simple_in, typed_at, infix_at, alternative_at, pat_read, listed, when, is_minus_path}
 use Rattle.parse_patterns.proofs.Joined.{pushed}
 use Rattle.parse_patterns.proofs.Seen.{seen_as, number_as, literal_as, literal_of, number-literal, seen, shown_token, token-shown}
-use Rattle.parse_patterns.proofs.Shown.{lead-var, lead-minus, lead_shown, spot_shown, name_of, binder_shown, subject_shown, piece1, earlier_shown, current_shown, bracket_shown, counted, count_shown, done_trees, bracket_trees, frame_shown, shown, OneSide, operand-shown, alternative-shown, pattern-shown}
+use Rattle.parse_patterns.proofs.Shown.{lead-var, lead-minus, lead_shown, tail_shown, name_of, binder_shown, subject_shown, piece1, earlier_shown, current_shown, bracket_shown, counted, count_shown, done_trees, bracket_trees, frame_shown, shown, OneSide, operand-shown, alternative-shown, pattern-shown}
 use Rattle.parse_patterns.proofs.SimpleTypes.{goes, leaves, is_alone, is_full, full_alone, is_empty, is_begin, simple_step, type_begun}
 
 -- the reader admits what the machine does, and goes where it goes
@@ -76,7 +76,7 @@ fresh-shown None [] = refl
 fresh-shown None (o ∷ os) = refl
 fresh-shown (Some b) os = refl
 
-pub whole-shown : (s : derived.Spot) → spec.is_whole (spot_shown s) ≡ is_some (spat_of s)
+pub whole-shown : (s : derived.Tail) → spec.is_whole (tail_shown s) ≡ is_some (spat_of s)
 whole-shown derived.Begin = refl
 whole-shown (derived.AtWild place) = refl
 whole-shown (derived.AtPath path) = refl
@@ -205,8 +205,8 @@ some-infix b os None = refl
 some-infix b os (Some d) = refl
 
 -- behind an operand that is whole
-whole-ended : (y : Symbol) (x : Lexeme) (b : Option derived.Binder) (os : List derived.Operation) (s : derived.Spot) (es : List derived.Earlier) (fs : List derived.Frame) → OneSide (derived.InInfix b os s)
-    → met (spec.is_whole (spot_shown s) && spec.may_end y (map frame_shown fs) x) (spec.ended y (map frame_shown fs) (earlier_shown es) (spec.alternative_at (current_shown (derived.InInfix b os s))) x)
+whole-ended : (y : Symbol) (x : Lexeme) (b : Option derived.Binder) (os : List derived.Operation) (s : derived.Tail) (es : List derived.Earlier) (fs : List derived.Frame) → OneSide (derived.InInfix b os s)
+    → met (spec.is_whole (tail_shown s) && spec.may_end y (map frame_shown fs) x) (spec.ended y (map frame_shown fs) (earlier_shown es) (spec.alternative_at (current_shown (derived.InInfix b os s))) x)
     ≡ option_map shown (derived.ended (seen_as y x) (infix_at b os (spat_of s)) es fs)
 whole-ended y x b os s es fs one =
     ap (λ w. met (w && spec.may_end y (map frame_shown fs) x) (spec.ended y (map frame_shown fs) (earlier_shown es) (spec.alternative_at (current_shown (derived.InInfix b os s))) x))
@@ -215,11 +215,11 @@ whole-ended y x b os s es fs one =
 
 -- ---- one kind of token after the other
 
-abbrev chain_shown : Option derived.Binder → List derived.Operation → derived.Spot → Infix
-chain_shown b os s = record { binder = binder_shown b; operations = operations_shown os; spot = spot_shown s }
+abbrev chain_shown : Option derived.Binder → List derived.Operation → derived.Tail → Infix
+chain_shown b os s = record { binder = binder_shown b; operations = operations_shown os; tail = tail_shown s }
 
 -- a name behind an operand
-behind-same : (x : Lexeme) (b : Option derived.Binder) (os : List derived.Operation) (s : derived.Spot) (o : Option SPat) (es : List derived.Earlier) (fs : List derived.Frame) → OneSide (derived.InInfix b os s)
+behind-same : (x : Lexeme) (b : Option derived.Binder) (os : List derived.Operation) (s : derived.Tail) (o : Option SPat) (es : List derived.Earlier) (fs : List derived.Frame) → OneSide (derived.InInfix b os s)
     → spat_of s ≡ o
     → met (is_some o && (is_no x.place.before && (is_bar (id_of x) || spec.operator_fits (operations_shown os) x)))
     (if is_bar (id_of x) then spec.barred (map frame_shown fs) (earlier_shown es) (spec.alternative_at (current_shown (derived.InInfix b os s)))
@@ -239,7 +239,7 @@ behind-same x b os s (Some d) es fs one e = go (is_no x.place.before) (is_bar (i
     current = current.InInfix (record {
       binder = binder_shown b;
       operations = pushed over (operations_shown os) p (id_of x);
-      spot = spot.Begin;
+      tail = tail.Begin;
     });
   }) (operand-shown s d e)
 
@@ -257,8 +257,8 @@ longer-plain path d id = go path.steps where
   go [] = refl
   go (s ∷ steps) = refl
 
-named-same : (x : Lexeme) (b : Option derived.Binder) (os : List derived.Operation) (s : derived.Spot) (es : List derived.Earlier) (fs : List derived.Frame) → OneSide (derived.InInfix b os s)
-    → met (spec.may_name (spot_shown s) (chain_shown b os s) (earlier_shown es) x) (spec.named (spot_shown s) (map frame_shown fs) (earlier_shown es) (chain_shown b os s) x)
+named-same : (x : Lexeme) (b : Option derived.Binder) (os : List derived.Operation) (s : derived.Tail) (es : List derived.Earlier) (fs : List derived.Frame) → OneSide (derived.InInfix b os s)
+    → met (spec.may_name (tail_shown s) (chain_shown b os s) (earlier_shown es) x) (spec.named (tail_shown s) (map frame_shown fs) (earlier_shown es) (chain_shown b os s) x)
     ≡ option_map shown (derived.named (id_of x) b os s es fs)
 named-same x b os derived.Begin es fs one = when-same _ _ _ _ (stand-shown b os es x.place.before) refl
 named-same x b os (derived.AtDot path d) es fs one =
@@ -268,7 +268,7 @@ named-same x b os (derived.AtDot path d) es fs one =
     to p l = Some (record {
       frames = map frame_shown fs;
       earlier = earlier_shown es;
-      current = current.InInfix (record { binder = binder_shown b; operations = operations_shown os; spot = spot.AtPath p l });
+      current = current.InInfix (record { binder = binder_shown b; operations = operations_shown os; tail = tail.AtPath p l });
     })
 named-same x b os (derived.AtWild place) es fs one = behind-same x b os (derived.AtWild place) _ es fs one refl
 named-same x b os (derived.AtPath path) es fs one = behind-same x b os (derived.AtPath path) _ es fs one refl
@@ -278,28 +278,28 @@ named-same x b os (derived.AtEnded d) es fs one = behind-same x b os (derived.At
 literal-piece : (l : Literal) → spec.leaf (literal_text l) (literal_place l).span ≡ piece_of (LiteralPat l)
 literal-piece l = ap (λ t. record { tall = t; span = (literal_place l).span }) (node-kept kind.LitPat (literal_text l) (literal_place l).span (literal_place l).span [])
 
-started-same : (x : Lexeme) (b : Option derived.Binder) (os : List derived.Operation) (s next : derived.Spot) (n : Newline) (spot_now : Spot) (es : List derived.Earlier) (fs : List derived.Frame)
-    → spot_now ≡ spot_shown next → x.place.before ≡ n
-    → met (spec.is_begin (spot_shown s) && spec.may_begin (chain_shown b os s) (earlier_shown es) x.place.before) (spec.at_spot (map frame_shown fs) (earlier_shown es) (chain_shown b os s) spot_now)
+started-same : (x : Lexeme) (b : Option derived.Binder) (os : List derived.Operation) (s next : derived.Tail) (n : Newline) (tail_now : Tail) (es : List derived.Earlier) (fs : List derived.Frame)
+    → tail_now ≡ tail_shown next → x.place.before ≡ n
+    → met (spec.is_begin (tail_shown s) && spec.may_begin (chain_shown b os s) (earlier_shown es) x.place.before) (spec.at_tail (map frame_shown fs) (earlier_shown es) (chain_shown b os s) tail_now)
     ≡ option_map shown (derived.started n b os s next es fs)
-started-same x b os derived.Begin next n spot_now es fs e m =
+started-same x b os derived.Begin next n tail_now es fs e m =
     when-same _ _ _ _ (stand-shown b os es x.place.before ∙ ap (derived.may_stand b os es) m)
-    (ap (spec.at_spot (map frame_shown fs) (earlier_shown es) (chain_shown b os derived.Begin)) e)
-started-same x b os (derived.AtWild place) next n spot_now es fs e m = refl
-started-same x b os (derived.AtPath path) next n spot_now es fs e m = refl
-started-same x b os (derived.AtDot path d) next n spot_now es fs e m = refl
-started-same x b os (derived.AtEnded d) next n spot_now es fs e m = refl
+    (ap (spec.at_tail (map frame_shown fs) (earlier_shown es) (chain_shown b os derived.Begin)) e)
+started-same x b os (derived.AtWild place) next n tail_now es fs e m = refl
+started-same x b os (derived.AtPath path) next n tail_now es fs e m = refl
+started-same x b os (derived.AtDot path d) next n tail_now es fs e m = refl
+started-same x b os (derived.AtEnded d) next n tail_now es fs e m = refl
 
 minus-piece : (path : QualId) (n : Number) → spec.leaf (codes "-" ++ n.text) (record { start = path.first.place.span.start; end = n.place.span.end }) ≡ piece_of (MinusPat path.first.place n)
 minus-piece path n = ap (λ t. record { tall = t; span = record { start = path.first.place.span.start; end = n.place.span.end } }) (node-kept kind.LitPat _ _ _ [])
 
-numbered-same : (x : Lexeme) (b : Option derived.Binder) (os : List derived.Operation) (s : derived.Spot) (es : List derived.Earlier) (fs : List derived.Frame)
-    → met (spec.may_number (spot_shown s) (chain_shown b os s) (earlier_shown es) x)
-    (spec.at_spot (map frame_shown fs) (earlier_shown es) (chain_shown b os s) (spot.AtEnded (spec.numbered (spot_shown s) x)))
+numbered-same : (x : Lexeme) (b : Option derived.Binder) (os : List derived.Operation) (s : derived.Tail) (es : List derived.Earlier) (fs : List derived.Frame)
+    → met (spec.may_number (tail_shown s) (chain_shown b os s) (earlier_shown es) x)
+    (spec.at_tail (map frame_shown fs) (earlier_shown es) (chain_shown b os s) (tail.AtEnded (spec.numbered (tail_shown s) x)))
     ≡ option_map shown (derived.numbered (number_as x) b os s es fs)
 numbered-same x b os derived.Begin es fs =
     when-same _ _ _ _ (stand-shown b os es x.place.before)
-    (ap (λ p. spec.at_spot (map frame_shown fs) (earlier_shown es) (chain_shown b os derived.Begin) (spot.AtEnded p)) (number-leaf (number_as x)))
+    (ap (λ p. spec.at_tail (map frame_shown fs) (earlier_shown es) (chain_shown b os derived.Begin) (tail.AtEnded p)) (number-leaf (number_as x)))
   where
     number-leaf : (n : Number) → spec.leaf n.text n.place.span ≡ piece_of (LiteralPat (literal_of n))
     number-leaf n =
@@ -307,7 +307,7 @@ numbered-same x b os derived.Begin es fs =
         ap (λ y. spec.leaf y.word y.place.span) (sym same) ∙ literal-piece (literal_of n)
 numbered-same x b os (derived.AtPath path) es fs =
     when-same _ _ _ _ (ap (λ v. v && is_no x.place.before) (lead-minus path))
-    (ap (λ p. spec.at_spot (map frame_shown fs) (earlier_shown es) (chain_shown b os (derived.AtPath path)) (spot.AtEnded p)) (minus-piece path (number_as x)))
+    (ap (λ p. spec.at_tail (map frame_shown fs) (earlier_shown es) (chain_shown b os (derived.AtPath path)) (tail.AtEnded p)) (minus-piece path (number_as x)))
 numbered-same x b os (derived.AtWild place) es fs = refl
 numbered-same x b os (derived.AtDot path d) es fs = refl
 numbered-same x b os (derived.AtEnded d) es fs = refl
@@ -326,8 +326,8 @@ var-same path rest test s t e same = ap (λ c. met c s) (e ∙ ap (λ v. v && re
   go true v = when-same rest rest s t refl (same v)
   go false v = refl
 
-coloned-same : (x : Lexeme) (b : Option derived.Binder) (os : List derived.Operation) (s : derived.Spot) (es : List derived.Earlier) (fs : List derived.Frame)
-    → met (spec.is_named (spot_shown s) && spec.is_fresh (binder_shown b) (operations_shown os)) (spec.type_from (spot_shown s) (map frame_shown fs) (earlier_shown es) (chain_shown b os s))
+coloned-same : (x : Lexeme) (b : Option derived.Binder) (os : List derived.Operation) (s : derived.Tail) (es : List derived.Earlier) (fs : List derived.Frame)
+    → met (spec.is_named (tail_shown s) && spec.is_fresh (binder_shown b) (operations_shown os)) (spec.type_from (tail_shown s) (map frame_shown fs) (earlier_shown es) (chain_shown b os s))
     ≡ option_map shown (derived.coloned x.place b os s es fs)
 coloned-same x b os derived.Begin es fs = refl
 coloned-same x b os (derived.AtWild place) es fs = when-same _ _ _ _ (fresh-shown b os) refl
@@ -338,20 +338,20 @@ coloned-same x b os (derived.AtPath path) es fs =
 coloned-same x b os (derived.AtDot path d) es fs = refl
 coloned-same x b os (derived.AtEnded d) es fs = refl
 
-signed-same : (x : Lexeme) (b : Option derived.Binder) (os : List derived.Operation) (s : derived.Spot) (es : List derived.Earlier) (fs : List derived.Frame)
-    → met (spec.is_var_spot (spot_shown s) && (spec.is_fresh (binder_shown b) (operations_shown os) && is_no x.place.before)) (spec.binder_from (spot_shown s) (map frame_shown fs) (earlier_shown es) (chain_shown b os s))
+signed-same : (x : Lexeme) (b : Option derived.Binder) (os : List derived.Operation) (s : derived.Tail) (es : List derived.Earlier) (fs : List derived.Frame)
+    → met (spec.is_var_tail (tail_shown s) && (spec.is_fresh (binder_shown b) (operations_shown os) && is_no x.place.before)) (spec.binder_from (tail_shown s) (map frame_shown fs) (earlier_shown es) (chain_shown b os s))
     ≡ option_map shown (derived.signed x.place b os s es fs)
 signed-same x b os derived.Begin es fs = refl
 signed-same x b os (derived.AtWild place) es fs = refl
 signed-same x b os (derived.AtPath path) es fs =
     var-same path (derived.is_fresh b os && is_no x.place.before) _ _ (derived.at fs es (derived.InInfix (Some (record { id = path.first; sign = x.place })) [] derived.Begin))
     (ap (λ f. spec.is_var_lead (lead_shown path) && (f && is_no x.place.before)) (fresh-shown b os))
-    (λ v. ap (λ p. record { frames = map frame_shown fs; earlier = earlier_shown es; current = current.InInfix (record { binder = Some p; operations = []; spot = spot.Begin }) }) (alone-name path v))
+    (λ v. ap (λ p. record { frames = map frame_shown fs; earlier = earlier_shown es; current = current.InInfix (record { binder = Some p; operations = []; tail = tail.Begin }) }) (alone-name path v))
 signed-same x b os (derived.AtDot path d) es fs = refl
 signed-same x b os (derived.AtEnded d) es fs = refl
 
-opened-same : (x : Lexeme) (b : Option derived.Binder) (os : List derived.Operation) (s : derived.Spot) (es : List derived.Earlier) (fs : List derived.Frame)
-    → met (spec.may_open (spot_shown s) (chain_shown b os s) (earlier_shown es) x) (spec.opened (spot_shown s) (map frame_shown fs) (earlier_shown es) (chain_shown b os s) x.place.span.start)
+opened-same : (x : Lexeme) (b : Option derived.Binder) (os : List derived.Operation) (s : derived.Tail) (es : List derived.Earlier) (fs : List derived.Frame)
+    → met (spec.may_open (tail_shown s) (chain_shown b os s) (earlier_shown es) x) (spec.opened (tail_shown s) (map frame_shown fs) (earlier_shown es) (chain_shown b os s) x.place.span.start)
     ≡ option_map shown (derived.opened x.place b os s es fs)
 opened-same x b os derived.Begin es fs = when-same _ _ _ _ (stand-shown b os es x.place.before) refl
 opened-same x b os (derived.AtPath path) es fs =
@@ -386,8 +386,8 @@ shut-begin c None [] (e ∷ es) fs = refl
 shut-begin c None (o ∷ os) es fs = refl
 shut-begin c (Some b) os es fs = refl
 
-shut-same : (x : Lexeme) (b : Option derived.Binder) (os : List derived.Operation) (s : derived.Spot) (es : List derived.Earlier) (fs : List derived.Frame) → OneSide (derived.InInfix b os s)
-    → met (spec.may_close_at (spot_shown s) (chain_shown b os s) (earlier_shown es) (map frame_shown fs)) (spec.closed_at (spot_shown s) (map frame_shown fs) (earlier_shown es) (chain_shown b os s) x.place.span.end)
+shut-same : (x : Lexeme) (b : Option derived.Binder) (os : List derived.Operation) (s : derived.Tail) (es : List derived.Earlier) (fs : List derived.Frame) → OneSide (derived.InInfix b os s)
+    → met (spec.may_close_at (tail_shown s) (chain_shown b os s) (earlier_shown es) (map frame_shown fs)) (spec.closed_at (tail_shown s) (map frame_shown fs) (earlier_shown es) (chain_shown b os s) x.place.span.end)
     ≡ option_map shown (derived.shut x.place b os s es fs)
 shut-same x b os derived.Begin es fs one = shut-begin x.place b os es fs
 shut-same x b os (derived.AtWild place) es fs one = whole-ended symbol.CloseRound x b os (derived.AtWild place) es fs one
@@ -395,25 +395,25 @@ shut-same x b os (derived.AtPath path) es fs one = whole-ended symbol.CloseRound
 shut-same x b os (derived.AtDot path d) es fs one = whole-ended symbol.CloseRound x b os (derived.AtDot path d) es fs one
 shut-same x b os (derived.AtEnded d) es fs one = whole-ended symbol.CloseRound x b os (derived.AtEnded d) es fs one
 
-dotted-same : (x : Lexeme) (b : Option derived.Binder) (os : List derived.Operation) (s : derived.Spot) (es : List derived.Earlier) (fs : List derived.Frame)
-    → met (spec.is_path (spot_shown s)) (spec.dotted (spot_shown s) (map frame_shown fs) (earlier_shown es) (chain_shown b os s)) ≡ option_map shown (derived.dotted x.place b os s es fs)
+dotted-same : (x : Lexeme) (b : Option derived.Binder) (os : List derived.Operation) (s : derived.Tail) (es : List derived.Earlier) (fs : List derived.Frame)
+    → met (spec.is_path (tail_shown s)) (spec.dotted (tail_shown s) (map frame_shown fs) (earlier_shown es) (chain_shown b os s)) ≡ option_map shown (derived.dotted x.place b os s es fs)
 dotted-same x b os derived.Begin es fs = refl
 dotted-same x b os (derived.AtWild place) es fs = refl
 dotted-same x b os (derived.AtPath path) es fs = refl
 dotted-same x b os (derived.AtDot path d) es fs = refl
 dotted-same x b os (derived.AtEnded d) es fs = refl
 
-moved-same : (y : Symbol) (x : Lexeme) (b : Option derived.Binder) (os : List derived.Operation) (s : derived.Spot) (es : List derived.Earlier) (fs : List derived.Frame) → OneSide (derived.InInfix b os s)
+moved-same : (y : Symbol) (x : Lexeme) (b : Option derived.Binder) (os : List derived.Operation) (s : derived.Tail) (es : List derived.Earlier) (fs : List derived.Frame) → OneSide (derived.InInfix b os s)
     → literal_token (literal_as x.kind x.word x.place) ≡ x ⊎ (y ≡ symbol.Literal → ⊥)
     → met (spec.admits_infix y (map frame_shown fs) (earlier_shown es) (chain_shown b os s) x) (spec.advanced_infix y (map frame_shown fs) (earlier_shown es) (chain_shown b os s) x)
     ≡ option_map shown (derived.moved (seen_as y x) b os s es fs)
 moved-same symbol.Id x b os s es fs one l = named-same x b os s es fs one
 moved-same symbol.Number x b os s es fs one l = numbered-same x b os s es fs
 moved-same symbol.Literal x b os s es fs one (inl l) =
-    started-same x b os s (derived.AtEnded (LiteralPat (literal_as x.kind x.word x.place))) _ (spot.AtEnded (spec.leaf x.word x.place.span)) es fs
-    (ap spot.AtEnded (ap (λ z. spec.leaf z.word z.place.span) (sym l) ∙ literal-piece (literal_as x.kind x.word x.place))) (ap (λ z. z.place.before) (sym l))
+    started-same x b os s (derived.AtEnded (LiteralPat (literal_as x.kind x.word x.place))) _ (tail.AtEnded (spec.leaf x.word x.place.span)) es fs
+    (ap tail.AtEnded (ap (λ z. spec.leaf z.word z.place.span) (sym l) ∙ literal-piece (literal_as x.kind x.word x.place))) (ap (λ z. z.place.before) (sym l))
 moved-same symbol.Literal x b os s es fs one (inr n) = absurd (n refl)
-moved-same symbol.Underscore x b os s es fs one l = started-same x b os s (derived.AtWild x.place) _ (spot.AtWild x.place.span) es fs refl refl
+moved-same symbol.Underscore x b os s es fs one l = started-same x b os s (derived.AtWild x.place) _ (tail.AtWild x.place.span) es fs refl refl
 moved-same symbol.Colon x b os s es fs one l = coloned-same x b os s es fs
 moved-same symbol.At x b os s es fs one l = signed-same x b os s es fs
 moved-same symbol.OpenRound x b os s es fs one l = opened-same x b os s es fs
@@ -446,7 +446,7 @@ full-same [] = refl
 full-same (f ∷ []) = type-room f.bracket f.done
 full-same (f ∷ g ∷ fs) = refl
 
-begin-same : (s : types.Spot) → spec.is_type_begin (type_shown.spot_shown s) ≡ is_begin s
+begin-same : (s : types.Tail) → spec.is_type_begin (type_shown.tail_shown s) ≡ is_begin s
 begin-same types.Begin = refl
 begin-same (types.AtPath path) = refl
 begin-same (types.AtDot path d) = refl
@@ -458,10 +458,10 @@ nil-frames : (fs : List types.Frame) → is_nil (map type_shown.frame_shown fs) 
 nil-frames [] = refl
 nil-frames (f ∷ fs) = refl
 
-leaves-same : (y : TypeSymbol) (x : Lexeme) (t : types.State) → spec.leaves (type_shown.shown t) y ≡ leaves (type_seen.seen_as y x) t.frames t.spot
+leaves-same : (y : TypeSymbol) (x : Lexeme) (t : types.State) → spec.leaves (type_shown.shown t) y ≡ leaves (type_seen.seen_as y x) t.frames t.tail
 leaves-same type_symbol.Arrow x t = nil-frames t.frames
 leaves-same type_symbol.Comma x t = full-same t.frames
-leaves-same type_symbol.CloseRound x t = ap (λ b. b && spec.is_type_begin (type_shown.spot_shown t.spot)) (alone-same t.frames) ∙ ap (λ b. is_alone t.frames && b) (begin-same t.spot)
+leaves-same type_symbol.CloseRound x t = ap (λ b. b && spec.is_type_begin (type_shown.tail_shown t.tail)) (alone-same t.frames) ∙ ap (λ b. is_alone t.frames && b) (begin-same t.tail)
 leaves-same type_symbol.Id x t = refl
 leaves-same type_symbol.OpenRound x t = refl
 leaves-same type_symbol.OpenSquare x t = refl
@@ -470,11 +470,11 @@ leaves-same type_symbol.Dot x t = refl
 leaves-same type_symbol.TypeWord x t = refl
 leaves-same type_symbol.Other x t = refl
 
-pub simple-shown : (t : types.State) → spec.is_simple (type_shown.shown t) ≡ is_some (simple_in t.frames t.heads t.spot)
+pub simple-shown : (t : types.State) → spec.is_simple (type_shown.shown t) ≡ is_some (simple_in t.frames t.heads t.tail)
 simple-shown t = go t.frames t.heads where
   go : (fs : List types.Frame) (hs : List types.Head)
-      → (is_nil (map type_shown.frame_shown fs) && (is_nil (map type_shown.head_shown hs) && type_spec.is_whole (type_shown.spot_shown t.spot))) ≡ is_some (simple_in fs hs t.spot)
-  go [] [] = type_moves.whole-same t.spot
+      → (is_nil (map type_shown.frame_shown fs) && (is_nil (map type_shown.head_shown hs) && type_spec.is_whole (type_shown.tail_shown t.tail))) ≡ is_some (simple_in fs hs t.tail)
+  go [] [] = type_moves.whole-same t.tail
   go [] (h ∷ hs) = refl
   go (f ∷ fs) hs = refl
 
@@ -490,7 +490,7 @@ type_met false t = None
 pub type-same : (t : types.State) (x : Lexeme)
     → type_met (spec.type_goes_on (type_shown.shown t) (type_symbol_of x)) (type_spec.advanced (type_shown.shown t) (type_symbol_of x) x.place.span x.word) ≡ option_map type_shown.shown (simple_step t x)
 type-same t x =
-    ap (λ b. type_met (not b && type_spec.admits (type_shown.shown t) (type_symbol_of x)) next) (leaves-same (type_symbol_of x) x t) ∙ go (leaves (type_seen.seen x) t.frames t.spot)
+    ap (λ b. type_met (not b && type_spec.admits (type_shown.shown t) (type_symbol_of x)) next) (leaves-same (type_symbol_of x) x t) ∙ go (leaves (type_seen.seen x) t.frames t.tail)
   where
     next : TypeState
     next = type_spec.advanced (type_shown.shown t) (type_symbol_of x) x.place.span x.word
@@ -522,7 +522,7 @@ typed-same x s p t es fs = go (spec.type_goes_on (type_shown.shown t) (type_symb
   go false (Some u) e = cc
   go false None e =
       ap (λ w. met (w && spec.may_end (symbol_of x.kind x.word) (map frame_shown fs) x) (spec.ended (symbol_of x.kind x.word) (map frame_shown fs) (earlier_shown es) (spec.typed (subject_shown s) (type_shown.shown t)) x))
-      (simple-shown t ∙ sym (some-typed s p (simple_in t.frames t.heads t.spot)))
+      (simple-shown t ∙ sym (some-typed s p (simple_in t.frames t.heads t.tail)))
       ∙ ended-same (symbol_of x.kind x.word) x (alternative_at (derived.InType s p t)) (spec.typed (subject_shown s) (type_shown.shown t)) es fs (λ d f. alternative-shown (derived.InType s p t) d tt f)
 
 -- ---- any token

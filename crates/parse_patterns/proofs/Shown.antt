@@ -29,8 +29,8 @@ use Rattle.parse_patterns.specs.declared.states.Frame.{Frame}
 use Rattle.parse_patterns.specs.declared.states.Lead.{Lead}
 use Rattle.parse_patterns.specs.declared.states.Lead.TheVariants as lead
 use Rattle.parse_patterns.specs.declared.states.Operand.{Operand}
-use Rattle.parse_patterns.specs.declared.states.Spot.{Spot}
-use Rattle.parse_patterns.specs.declared.states.Spot.TheVariants as spot
+use Rattle.parse_patterns.specs.declared.states.Tail.{Tail}
+use Rattle.parse_patterns.specs.declared.states.Tail.TheVariants as tail
 use Rattle.parse_patterns.specs.declared.states.State.{State}
 use Rattle.parse_patterns.specs.Names.{is_minus, lead_of}
 use Rattle.parse_patterns.specs.Operators as operators
@@ -51,12 +51,12 @@ lead_in id (s ∷ steps) = lead.Plain
 abbrev pub lead_shown : QualId → Lead
 lead_shown path = lead_in path.first path.steps
 
-abbrev pub spot_shown : derived.Spot → Spot
-spot_shown derived.Begin = spot.Begin
-spot_shown (derived.AtWild place) = spot.AtWild place.span
-spot_shown (derived.AtPath path) = spot.AtPath (path_shown path) (lead_shown path)
-spot_shown (derived.AtDot path d) = spot.AtDot (path_shown path)
-spot_shown (derived.AtEnded d) = spot.AtEnded (piece_of d)
+abbrev pub tail_shown : derived.Tail → Tail
+tail_shown derived.Begin = tail.Begin
+tail_shown (derived.AtWild place) = tail.AtWild place.span
+tail_shown (derived.AtPath path) = tail.AtPath (path_shown path) (lead_shown path)
+tail_shown (derived.AtDot path d) = tail.AtDot (path_shown path)
+tail_shown (derived.AtEnded d) = tail.AtEnded (piece_of d)
 
 abbrev pub name_of : Id → Name
 name_of id = record { text = id.name; span = id.place.span }
@@ -78,7 +78,7 @@ earlier_shown (e ∷ es) = Some (spec.then_later (earlier_shown es) (piece1 e.pa
 
 abbrev pub current_shown : derived.Current → Current
 current_shown (derived.InType s point t) = current.InType (subject_shown s) (type_shown.shown t)
-current_shown (derived.InInfix b os s) = current.InInfix (record { binder = binder_shown b; operations = operations_shown os; spot = spot_shown s })
+current_shown (derived.InInfix b os s) = current.InInfix (record { binder = binder_shown b; operations = operations_shown os; tail = tail_shown s })
 
 abbrev pub bracket_shown : derived.Bracket → Bracket
 bracket_shown (derived.Call path o done) = bracket.Call path.first.place.span.start (name_of (last_id path))
@@ -161,7 +161,7 @@ path-piece path false e =
     ap (λ t. record { tall = t; span = path_span path }) (node-kept kind.StablePat (last_id path).name (last_id path).place.span (path_span path) (prefix_kids path))
     ∙ ap (λ n. record { tall = kept (spat_tree (PathPat path)); span = record { start = path.first.place.span.start; end = n } }) (sym (steps-end path.first path.steps))
 
-pub operand-shown : (s : derived.Spot) (d : SPat) → spat_of s ≡ Some d → spec.operand_at (spot_shown s) ≡ piece_of d
+pub operand-shown : (s : derived.Tail) (d : SPat) → spat_of s ≡ Some d → spec.operand_at (tail_shown s) ≡ piece_of d
 operand-shown (derived.AtWild place) d e =
     (let h : WildPat place ≡ d = cc in ap (λ t. record { tall = t; span = place.span }) (node-kept kind.Wild [] place.span place.span []) ∙ ap piece_of h)
 operand-shown (derived.AtPath path) d e =
@@ -217,16 +217,16 @@ typed-piece name type tokens e s f =
 pub simple-begins : (type : SimpleType) → Some_begins (simple_tokens type)
 simple-begins type = record { first = (type_shown.simple-begins type).0; begins = record { rest = (type_shown.simple-begins type).1.rest; is = (type_shown.simple-begins type).1.is } }
 
-typed-shown : (s : derived.Subject) (point : Place) (t : types.State) (fs : List types.Frame) (hs : List types.Head) (type : SimpleType) → simple_in fs hs t.spot ≡ Some type
+typed-shown : (s : derived.Subject) (point : Place) (t : types.State) (fs : List types.Frame) (hs : List types.Head) (type : SimpleType) → simple_in fs hs t.tail ≡ Some type
     → spec.typed (subject_shown s) (type_shown.shown t) ≡ piece1 (typed s point type)
 typed-shown s point t [] [] type e =
-    ap (typed_to (subject_shown s) last) (type_shown.spot-shown t.spot type e) ∙ go s
+    ap (typed_to (subject_shown s) last) (type_shown.tail-shown t.tail type e) ∙ go s
   where
     last : ℕ
-    last = type_spec.spot_end (type_shown.spot_shown t.spot)
+    last = type_spec.tail_end (type_shown.tail_shown t.tail)
 
     ends : end_of (simple_tokens type) ≡ last
-    ends = ap end_of (types_sound.simple-tokens t.spot type e) ∙ type_shown.spot-ends t.spot type e
+    ends = ap end_of (types_sound.simple-tokens t.tail type e) ∙ type_shown.tail-ends t.tail type e
 
     go : (s : derived.Subject) → typed_to (subject_shown s) last (kept (simple_tree type)) ≡ piece1 (typed s point type)
     go (derived.VarSubject id) = typed-piece (name_of id) type (pat1_tokens (TypedVar id point type)) last refl (end-append (id_token id ∷ colon point ∷ []) (simple_tokens type) (simple-begins type) ∙ ends)
@@ -241,13 +241,13 @@ OneSide (derived.InType s point t) = Unit {0}
 OneSide (derived.InInfix b os s) = (x : SPat) → spat_of s ≡ Some x → are_of_one_side (pat3_operators (settled os (LastOperand x))) ≡ true
 
 pub alternative-shown : (c : derived.Current) (d : Pat1) → OneSide c → alternative_at c ≡ Some d → spec.alternative_at (current_shown c) ≡ piece1 d
-alternative-shown (derived.InType s point t) d one e = go (simple_in t.frames t.heads t.spot) refl e where
-  go : (o : Option SimpleType) → simple_in t.frames t.heads t.spot ≡ o → typed_at s point o ≡ Some d → spec.typed (subject_shown s) (type_shown.shown t) ≡ piece1 d
+alternative-shown (derived.InType s point t) d one e = go (simple_in t.frames t.heads t.tail) refl e where
+  go : (o : Option SimpleType) → simple_in t.frames t.heads t.tail ≡ o → typed_at s point o ≡ Some d → spec.typed (subject_shown s) (type_shown.shown t) ≡ piece1 d
   go None was f = cc
   go (Some type) was f = (let h : typed s point type ≡ d = cc in typed-shown s point t t.frames t.heads type was ∙ ap piece1 h)
 alternative-shown (derived.InInfix b os s) d one e = go (spat_of s) refl e where
   go : (o : Option SPat) → spat_of s ≡ o → infix_at b os o ≡ Some d
-      → spec.bound (binder_shown b) (operators.settled (operations_shown os) (spec.operand_at (spot_shown s))) ≡ piece1 d
+      → spec.bound (binder_shown b) (operators.settled (operations_shown os) (spec.operand_at (tail_shown s))) ≡ piece1 d
   go None was f = cc
   go (Some x) was f =
       let h : bound b (settled os (LastOperand x)) ≡ d = cc in

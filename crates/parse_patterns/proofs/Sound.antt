@@ -15,7 +15,7 @@ use Rattle.parse_parts.proofs.Derived.{longer}
 use Rattle.parse_parts.proofs.Sound as types_sound
 use Rattle.parse_parts.proofs.Sound.{tokens_in as type_tokens_in}
 use Rattle.parse_patterns.specs.Steps.{is_no}
-use Rattle.parse_patterns.proofs.Derived.{Operation, Binder, Done, Earlier, Spot, Begin, AtWild, AtPath, AtDot, AtEnded, Subject, VarSubject, WildSubject, Current, InType, InInfix, Bracket, Call, Group, GroupOne, GroupTwo, Frame, State, settled, bound, typed, alternated, listed, named_pat, spat_of, simple_in, typed_at, infix_at, alternative_at, pat_read, is_fresh, has_none, when, at, framed, parted_in, parted, closed_as, closed, emptied_as, emptied_in, emptied, barred, ended_by, ended, operated, behind, named, is_minus_path, started, numbered, coloned, signed, opened, shut, dotted, moved, moved_in, step_at, step, spot_tokens, operations_tokens, binder_tokens, subject_tokens, current_tokens, earlier_tokens, done_tokens, bracket_tokens, frames_tokens, tokens_in}
+use Rattle.parse_patterns.proofs.Derived.{Operation, Binder, Done, Earlier, Tail, Begin, AtWild, AtPath, AtDot, AtEnded, Subject, VarSubject, WildSubject, Current, InType, InInfix, Bracket, Call, Group, GroupOne, GroupTwo, Frame, State, settled, bound, typed, alternated, listed, named_pat, spat_of, simple_in, typed_at, infix_at, alternative_at, pat_read, is_fresh, has_none, when, at, framed, parted_in, parted, closed_as, closed, emptied_as, emptied_in, emptied, barred, ended_by, ended, operated, behind, named, is_minus_path, started, numbered, coloned, signed, opened, shut, dotted, moved, moved_in, step_at, step, tail_tokens, operations_tokens, binder_tokens, subject_tokens, current_tokens, earlier_tokens, done_tokens, bracket_tokens, frames_tokens, tokens_in}
 use Rattle.parse_patterns.proofs.Seen.{Seen, AnId, ANumber, ALiteral, AnUnderscore, AColon, AnAt, OpensRound, ClosesRound, AComma, ADot, Another, seen, shown_token, token-shown, number-literal}
 use Rattle.parse_patterns.proofs.SimpleTypes.{simple_step, simple-step-is}
 
@@ -56,7 +56,7 @@ named-tokens : (path : QualId) (v : Bool) → is_var_path path.first path.steps 
 named-tokens path true e = ap (λ steps. id_token path.first ∷ steps_tokens steps) (sym (var-path path e))
 named-tokens path false e = refl
 
-pub spat-tokens : (spot : Spot) (d : SPat) → spat_of spot ≡ Some d → spat_tokens d ≡ spot_tokens spot
+pub spat-tokens : (tail : Tail) (d : SPat) → spat_of tail ≡ Some d → spat_tokens d ≡ tail_tokens tail
 spat-tokens (AtWild place) d e = (let h : WildPat place ≡ d = cc in ap spat_tokens (sym h))
 spat-tokens (AtPath path) d e = (let h : named_pat (is_var_path path.first path.steps) path ≡ d = cc in ap spat_tokens (sym h) ∙ named-tokens path _ refl)
 spat-tokens (AtEnded x) d e = (let h : x ≡ d = cc in ap spat_tokens (sym h))
@@ -67,25 +67,25 @@ typed-tokens (VarSubject id) point type = refl
 typed-tokens (WildSubject place) point type = refl
 
 simple-in-tokens : (t : types.State) (fs : List types.Frame) (hs : List types.Head) (type : SimpleType) → t.frames ≡ fs → t.heads ≡ hs
-    → simple_in fs hs t.spot ≡ Some type → simple_tokens type ≡ type_tokens_in t
+    → simple_in fs hs t.tail ≡ Some type → simple_tokens type ≡ type_tokens_in t
 simple-in-tokens t [] [] type f h e =
-    types_sound.simple-tokens t.spot type e ∙ sym (ap (λ fs. types.state_tokens fs t.heads t.spot) f ∙ ap (λ hs. types.state_tokens [] hs t.spot) h)
+    types_sound.simple-tokens t.tail type e ∙ sym (ap (λ fs. types.state_tokens fs t.heads t.tail) f ∙ ap (λ hs. types.state_tokens [] hs t.tail) h)
 simple-in-tokens t [] (k ∷ hs) type f h e = cc
 simple-in-tokens t (k ∷ fs) hs type f h e = cc
 
 pub alternative-tokens : (current : Current) (d : Pat1) → alternative_at current ≡ Some d → pat1_tokens d ≡ current_tokens current
-alternative-tokens (InType s point t) d e = go (simple_in t.frames t.heads t.spot) refl e where
-  go : (o : Option SimpleType) → simple_in t.frames t.heads t.spot ≡ o → typed_at s point o ≡ Some d → pat1_tokens d ≡ subject_tokens s point ++ type_tokens_in t
+alternative-tokens (InType s point t) d e = go (simple_in t.frames t.heads t.tail) refl e where
+  go : (o : Option SimpleType) → simple_in t.frames t.heads t.tail ≡ o → typed_at s point o ≡ Some d → pat1_tokens d ≡ subject_tokens s point ++ type_tokens_in t
   go None was f = cc
   go (Some type) was f =
       let h : typed s point type ≡ d = cc in
       ap pat1_tokens (sym h) ∙ typed-tokens s point type ∙ ap (λ xs. subject_tokens s point ++ xs) (simple-in-tokens t t.frames t.heads type refl refl was)
-alternative-tokens (InInfix b os spot) d e = go (spat_of spot) refl e where
-  go : (o : Option SPat) → spat_of spot ≡ o → infix_at b os o ≡ Some d → pat1_tokens d ≡ binder_tokens b ++ (operations_tokens os ++ spot_tokens spot)
+alternative-tokens (InInfix b os tail) d e = go (spat_of tail) refl e where
+  go : (o : Option SPat) → spat_of tail ≡ o → infix_at b os o ≡ Some d → pat1_tokens d ≡ binder_tokens b ++ (operations_tokens os ++ tail_tokens tail)
   go None was f = cc
   go (Some x) was f =
       let h : bound b (settled os (LastOperand x)) ≡ d = cc in
-      ap pat1_tokens (sym h) ∙ bound-tokens b os x ∙ ap (λ xs. binder_tokens b ++ (operations_tokens os ++ xs)) (spat-tokens spot x was)
+      ap pat1_tokens (sym h) ∙ bound-tokens b os x ∙ ap (λ xs. binder_tokens b ++ (operations_tokens os ++ xs)) (spat-tokens tail x was)
 
 -- ---- one token more
 
@@ -108,20 +108,20 @@ both true true e = (refl, refl)
 both true false e = cc
 both false y e = cc
 
--- the spot alone has one token more
-at-spot : (fs : List Frame) (es : List Earlier) (b : Option Binder) (os : List Operation) (old new : List Lexeme) (x : Lexeme) → new ≡ old ++ x ∷ []
+-- the tail alone has one token more
+at-tail : (fs : List Frame) (es : List Earlier) (b : Option Binder) (os : List Operation) (old new : List Lexeme) (x : Lexeme) → new ≡ old ++ x ∷ []
     → frames_tokens fs ++ (earlier_tokens es ++ (binder_tokens b ++ (operations_tokens os ++ new)))
     ≡ (frames_tokens fs ++ (earlier_tokens es ++ (binder_tokens b ++ (operations_tokens os ++ old)))) ++ x ∷ []
-at-spot fs es b os old new x e =
+at-tail fs es b os old new x e =
     ap (λ ys. frames_tokens fs ++ (earlier_tokens es ++ (binder_tokens b ++ (operations_tokens os ++ ys)))) e
     ∙ go (frames_tokens fs) (earlier_tokens es) (binder_tokens b) (operations_tokens os) old
   where
     go : (f e b o old : List Lexeme) → f ++ (e ++ (b ++ (o ++ (old ++ x ∷ [])))) ≡ (f ++ (e ++ (b ++ (o ++ old)))) ++ x ∷ []
     go f e b o old = simp append_assoc
 
-started-adds : (x : Lexeme) (n : Newline) (b : Option Binder) (os : List Operation) (spot next : Spot) (es : List Earlier) (fs : List Frame) → spot_tokens next ≡ x ∷ []
-    → Adds (started n b os spot next es fs) (tokens_in (at fs es (InInfix b os spot))) x
-started-adds x n b os Begin next es fs e = adds-when _ _ _ _ (λ h. at-spot fs es b os [] _ x e)
+started-adds : (x : Lexeme) (n : Newline) (b : Option Binder) (os : List Operation) (tail next : Tail) (es : List Earlier) (fs : List Frame) → tail_tokens next ≡ x ∷ []
+    → Adds (started n b os tail next es fs) (tokens_in (at fs es (InInfix b os tail))) x
+started-adds x n b os Begin next es fs e = adds-when _ _ _ _ (λ h. at-tail fs es b os [] _ x e)
 started-adds x n b os _ next es fs e = adds-none _ _
 
 same-word : (w v : Bytes) → bytes_eq w v ≡ true → w ≡ v
@@ -228,37 +228,37 @@ ended-adds y current (Some pat) es fs e = ended-by-adds y pat es fs _ (alternati
 
 -- ---- one token after the other
 
-operated-adds : (k : Bool) (id : Id) (b : Option Binder) (os : List Operation) (spot : Spot) (d : SPat) (es : List Earlier) (fs : List Frame) → is_bar id ≡ k → spat_tokens d ≡ spot_tokens spot
-    → Adds (operated k id b os d es fs) (tokens_in (at fs es (InInfix b os spot))) (id_token id)
-operated-adds true id b os spot d es fs k e =
+operated-adds : (k : Bool) (id : Id) (b : Option Binder) (os : List Operation) (tail : Tail) (d : SPat) (es : List Earlier) (fs : List Frame) → is_bar id ≡ k → spat_tokens d ≡ tail_tokens tail
+    → Adds (operated k id b os d es fs) (tokens_in (at fs es (InInfix b os tail))) (id_token id)
+operated-adds true id b os tail d es fs k e =
     adds-some _ _ _ (barred-tokens id.place (bound b (settled os (LastOperand d))) es fs _ (id_token id)
     (bound-tokens b os d ∙ ap (λ xs. binder_tokens b ++ (operations_tokens os ++ xs)) e) (bar-is id k))
-operated-adds false id b os spot d es fs k e =
+operated-adds false id b os tail d es fs k e =
     adds-when _ _ _ _ (λ h. ap (λ xs. frames_tokens fs ++ (earlier_tokens es ++ (binder_tokens b ++ ((operations_tokens os ++ (xs ++ id_token id ∷ [])) ++ [])))) e
-    ∙ go (frames_tokens fs) (earlier_tokens es) (binder_tokens b) (operations_tokens os) (spot_tokens spot))
+    ∙ go (frames_tokens fs) (earlier_tokens es) (binder_tokens b) (operations_tokens os) (tail_tokens tail))
   where
     go : (f e b o s : List Lexeme) → f ++ (e ++ (b ++ ((o ++ (s ++ id_token id ∷ [])) ++ []))) ≡ (f ++ (e ++ (b ++ (o ++ s)))) ++ id_token id ∷ []
     go f e b o s = simp (append_assoc, append-nil)
 
-behind-adds : (id : Id) (b : Option Binder) (os : List Operation) (spot : Spot) (o : Option SPat) (es : List Earlier) (fs : List Frame) → spat_of spot ≡ o
-    → Adds (behind id b os o es fs) (tokens_in (at fs es (InInfix b os spot))) (id_token id)
-behind-adds id b os spot None es fs e = adds-none _ _
-behind-adds id b os spot (Some d) es fs e = go (is_no id.place.before) where
-  go : (n : Bool) → Adds (if n then operated (is_bar id) id b os d es fs else None) (tokens_in (at fs es (InInfix b os spot))) (id_token id)
-  go true = operated-adds (is_bar id) id b os spot d es fs refl (spat-tokens spot d e)
+behind-adds : (id : Id) (b : Option Binder) (os : List Operation) (tail : Tail) (o : Option SPat) (es : List Earlier) (fs : List Frame) → spat_of tail ≡ o
+    → Adds (behind id b os o es fs) (tokens_in (at fs es (InInfix b os tail))) (id_token id)
+behind-adds id b os tail None es fs e = adds-none _ _
+behind-adds id b os tail (Some d) es fs e = go (is_no id.place.before) where
+  go : (n : Bool) → Adds (if n then operated (is_bar id) id b os d es fs else None) (tokens_in (at fs es (InInfix b os tail))) (id_token id)
+  go true = operated-adds (is_bar id) id b os tail d es fs refl (spat-tokens tail d e)
   go false = adds-none _ _
 
-named-adds : (id : Id) (b : Option Binder) (os : List Operation) (spot : Spot) (es : List Earlier) (fs : List Frame)
-    → Adds (named id b os spot es fs) (tokens_in (at fs es (InInfix b os spot))) (id_token id)
-named-adds id b os Begin es fs = adds-when _ _ _ _ (λ h. at-spot fs es b os [] _ (id_token id) refl)
-named-adds id b os (AtDot path d) es fs = adds-some _ _ _ (at-spot fs es b os _ _ (id_token id) (types_sound.longer-tokens path d id))
-named-adds id b os spot es fs = behind-adds id b os spot (spat_of spot) es fs refl
+named-adds : (id : Id) (b : Option Binder) (os : List Operation) (tail : Tail) (es : List Earlier) (fs : List Frame)
+    → Adds (named id b os tail es fs) (tokens_in (at fs es (InInfix b os tail))) (id_token id)
+named-adds id b os Begin es fs = adds-when _ _ _ _ (λ h. at-tail fs es b os [] _ (id_token id) refl)
+named-adds id b os (AtDot path d) es fs = adds-some _ _ _ (at-tail fs es b os _ _ (id_token id) (types_sound.longer-tokens path d id))
+named-adds id b os tail es fs = behind-adds id b os tail (spat_of tail) es fs refl
 
-numbered-adds : (n : Number) (b : Option Binder) (os : List Operation) (spot : Spot) (es : List Earlier) (fs : List Frame)
-    → Adds (numbered n b os spot es fs) (tokens_in (at fs es (InInfix b os spot))) (number_token n)
+numbered-adds : (n : Number) (b : Option Binder) (os : List Operation) (tail : Tail) (es : List Earlier) (fs : List Frame)
+    → Adds (numbered n b os tail es fs) (tokens_in (at fs es (InInfix b os tail))) (number_token n)
 numbered-adds n b os Begin es fs = started-adds (number_token n) n.place.before b os Begin _ es fs (ap (λ x. x ∷ []) (number-literal n))
 numbered-adds n b os (AtPath path) es fs =
-    adds-when _ _ _ _ (λ h. at-spot fs es b os _ _ (number_token n) (ap (λ xs. xs ++ number_token n ∷ []) (minus-is path (both (is_minus_path path) _ h).0)))
+    adds-when _ _ _ _ (λ h. at-tail fs es b os _ _ (number_token n) (ap (λ xs. xs ++ number_token n ∷ []) (minus-is path (both (is_minus_path path) _ h).0)))
 numbered-adds n b os _ es fs = adds-none _ _
 
 fresh-tokens : (fs : List Frame) (es : List Earlier) (old : List Lexeme) (x : Lexeme) → frames_tokens fs ++ (earlier_tokens es ++ (old ++ x ∷ [])) ≡ (frames_tokens fs ++ (earlier_tokens es ++ old)) ++ x ∷ []
@@ -279,23 +279,23 @@ path-fresh y path None [] es fs v h =
 path-fresh y path None (o ∷ os) es fs v h = cc
 path-fresh y path (Some b) os es fs v h = cc
 
-coloned-adds : (p : Place) (b : Option Binder) (os : List Operation) (spot : Spot) (es : List Earlier) (fs : List Frame)
-    → Adds (coloned p b os spot es fs) (tokens_in (at fs es (InInfix b os spot))) (colon p)
+coloned-adds : (p : Place) (b : Option Binder) (os : List Operation) (tail : Tail) (es : List Earlier) (fs : List Frame)
+    → Adds (coloned p b os tail es fs) (tokens_in (at fs es (InInfix b os tail))) (colon p)
 coloned-adds p b os (AtWild place) es fs = adds-when _ _ _ _ (λ h. coloned-wild p place b os es fs h)
 coloned-adds p b os (AtPath path) es fs =
     adds-when _ _ _ _ (λ h. (let g = both (is_var_path path.first path.steps) (is_fresh b os) h in path-fresh (colon p) path b os es fs g.0 g.1))
 coloned-adds p b os _ es fs = adds-none _ _
 
-signed-adds : (p : Place) (b : Option Binder) (os : List Operation) (spot : Spot) (es : List Earlier) (fs : List Frame)
-    → Adds (signed p b os spot es fs) (tokens_in (at fs es (InInfix b os spot))) (at_sign p)
+signed-adds : (p : Place) (b : Option Binder) (os : List Operation) (tail : Tail) (es : List Earlier) (fs : List Frame)
+    → Adds (signed p b os tail es fs) (tokens_in (at fs es (InInfix b os tail))) (at_sign p)
 signed-adds p b os (AtPath path) es fs =
     adds-when _ _ _ _ (λ h. (let g = both (is_var_path path.first path.steps) _ h in path-fresh (at_sign p) path b os es fs g.0 (both (is_fresh b os) _ g.1).0))
 signed-adds p b os _ es fs = adds-none _ _
 
-opened-adds : (o : Place) (b : Option Binder) (os : List Operation) (spot : Spot) (es : List Earlier) (fs : List Frame)
-    → Adds (opened o b os spot es fs) (tokens_in (at fs es (InInfix b os spot))) (open_round o)
-opened-adds o b os Begin es fs = adds-when _ _ _ _ (λ h. append-nil _ ∙ at-spot fs es b os [] _ (open_round o) refl)
-opened-adds o b os (AtPath path) es fs = adds-when _ _ _ _ (λ h. append-nil _ ∙ at-spot fs es b os _ _ (open_round o) refl)
+opened-adds : (o : Place) (b : Option Binder) (os : List Operation) (tail : Tail) (es : List Earlier) (fs : List Frame)
+    → Adds (opened o b os tail es fs) (tokens_in (at fs es (InInfix b os tail))) (open_round o)
+opened-adds o b os Begin es fs = adds-when _ _ _ _ (λ h. append-nil _ ∙ at-tail fs es b os [] _ (open_round o) refl)
+opened-adds o b os (AtPath path) es fs = adds-when _ _ _ _ (λ h. append-nil _ ∙ at-tail fs es b os _ _ (open_round o) refl)
 opened-adds o b os _ es fs = adds-none _ _
 
 emptied-tokens : (c : Place) (k : Bracket) (d : SPat) → emptied_as c k ≡ Some d → spat_tokens d ≡ bracket_tokens k ++ close_round c ∷ []
@@ -310,34 +310,34 @@ emptied-adds c [] = adds-none [] (close_round c)
 emptied-adds c (f ∷ fs) = go (emptied_as c f.bracket) refl where
   go : (o : Option SPat) → emptied_as c f.bracket ≡ o → Adds (emptied_in o f fs) (frames_tokens (f ∷ fs)) (close_round c)
   go None e = adds-none _ _
-  go (Some d) e = adds-some _ _ _ (at-spot fs f.earlier f.binder f.operations (bracket_tokens f.bracket) _ (close_round c) (emptied-tokens c f.bracket d e))
+  go (Some d) e = adds-some _ _ _ (at-tail fs f.earlier f.binder f.operations (bracket_tokens f.bracket) _ (close_round c) (emptied-tokens c f.bracket d e))
 
-shut-adds : (c : Place) (b : Option Binder) (os : List Operation) (spot : Spot) (es : List Earlier) (fs : List Frame)
-    → Adds (shut c b os spot es fs) (tokens_in (at fs es (InInfix b os spot))) (close_round c)
+shut-adds : (c : Place) (b : Option Binder) (os : List Operation) (tail : Tail) (es : List Earlier) (fs : List Frame)
+    → Adds (shut c b os tail es fs) (tokens_in (at fs es (InInfix b os tail))) (close_round c)
 shut-adds c None [] Begin [] fs = λ s e. emptied-adds c fs s e ∙ ap (λ xs. xs ++ close_round c ∷ []) (sym (append-nil (frames_tokens fs)))
 shut-adds c None [] Begin (e ∷ es) fs = adds-none _ _
 shut-adds c None (o ∷ os) Begin es fs = adds-none _ _
 shut-adds c (Some b) os Begin es fs = adds-none _ _
-shut-adds c b os spot es fs = ended-adds (ClosesRound c) (InInfix b os spot) _ es fs refl
+shut-adds c b os tail es fs = ended-adds (ClosesRound c) (InInfix b os tail) _ es fs refl
 
-dotted-adds : (d : Place) (b : Option Binder) (os : List Operation) (spot : Spot) (es : List Earlier) (fs : List Frame)
-    → Adds (dotted d b os spot es fs) (tokens_in (at fs es (InInfix b os spot))) (dot d)
-dotted-adds d b os (AtPath path) es fs = adds-some _ _ _ (at-spot fs es b os _ _ (dot d) refl)
+dotted-adds : (d : Place) (b : Option Binder) (os : List Operation) (tail : Tail) (es : List Earlier) (fs : List Frame)
+    → Adds (dotted d b os tail es fs) (tokens_in (at fs es (InInfix b os tail))) (dot d)
+dotted-adds d b os (AtPath path) es fs = adds-some _ _ _ (at-tail fs es b os _ _ (dot d) refl)
 dotted-adds d b os _ es fs = adds-none _ _
 
-moved-adds : (y : Seen) (b : Option Binder) (os : List Operation) (spot : Spot) (es : List Earlier) (fs : List Frame)
-    → Adds (moved y b os spot es fs) (tokens_in (at fs es (InInfix b os spot))) (shown_token y)
-moved-adds (AnId id) b os spot es fs = named-adds id b os spot es fs
-moved-adds (ANumber n) b os spot es fs = numbered-adds n b os spot es fs
-moved-adds (ALiteral l) b os spot es fs = started-adds (literal_token l) _ b os spot _ es fs refl
-moved-adds (AnUnderscore p) b os spot es fs = started-adds (underscore p) _ b os spot _ es fs refl
-moved-adds (AColon p) b os spot es fs = coloned-adds p b os spot es fs
-moved-adds (AnAt p) b os spot es fs = signed-adds p b os spot es fs
-moved-adds (OpensRound o) b os spot es fs = opened-adds o b os spot es fs
-moved-adds (ClosesRound c) b os spot es fs = shut-adds c b os spot es fs
-moved-adds (AComma c) b os spot es fs = ended-adds (AComma c) (InInfix b os spot) _ es fs refl
-moved-adds (ADot d) b os spot es fs = dotted-adds d b os spot es fs
-moved-adds (Another x) b os spot es fs = adds-none _ _
+moved-adds : (y : Seen) (b : Option Binder) (os : List Operation) (tail : Tail) (es : List Earlier) (fs : List Frame)
+    → Adds (moved y b os tail es fs) (tokens_in (at fs es (InInfix b os tail))) (shown_token y)
+moved-adds (AnId id) b os tail es fs = named-adds id b os tail es fs
+moved-adds (ANumber n) b os tail es fs = numbered-adds n b os tail es fs
+moved-adds (ALiteral l) b os tail es fs = started-adds (literal_token l) _ b os tail _ es fs refl
+moved-adds (AnUnderscore p) b os tail es fs = started-adds (underscore p) _ b os tail _ es fs refl
+moved-adds (AColon p) b os tail es fs = coloned-adds p b os tail es fs
+moved-adds (AnAt p) b os tail es fs = signed-adds p b os tail es fs
+moved-adds (OpensRound o) b os tail es fs = opened-adds o b os tail es fs
+moved-adds (ClosesRound c) b os tail es fs = shut-adds c b os tail es fs
+moved-adds (AComma c) b os tail es fs = ended-adds (AComma c) (InInfix b os tail) _ es fs refl
+moved-adds (ADot d) b os tail es fs = dotted-adds d b os tail es fs
+moved-adds (Another x) b os tail es fs = adds-none _ _
 
 typed-adds : (t : types.State) (x : Lexeme) (s : Subject) (point : Place) (es : List Earlier) (fs : List Frame) (o : Option types.State) → simple_step t x ≡ o
     → Adds (moved_in o s point (alternative_at (InType s point t)) (seen x) es fs) (tokens_in (at fs es (InType s point t))) x
@@ -353,8 +353,8 @@ typed-adds t x s point es fs (Some u) e =
 
 step-at-adds : (current : Current) (x : Lexeme) (es : List Earlier) (fs : List Frame) → Adds (step_at current x es fs) (tokens_in (at fs es current)) x
 step-at-adds (InType s point t) x es fs = typed-adds t x s point es fs (simple_step t x) refl
-step-at-adds (InInfix b os spot) x es fs =
-    subst (λ z. Adds (moved (seen x) b os spot es fs) (tokens_in (at fs es (InInfix b os spot))) z) (token-shown x) (moved-adds (seen x) b os spot es fs)
+step-at-adds (InInfix b os tail) x es fs =
+    subst (λ z. Adds (moved (seen x) b os tail es fs) (tokens_in (at fs es (InInfix b os tail))) z) (token-shown x) (moved-adds (seen x) b os tail es fs)
 
 pub step-adds : (s : State) (x : Lexeme) (t : State) → step s x ≡ Some t → tokens_in t ≡ tokens_in s ++ x ∷ []
 step-adds s x t e = step-at-adds s.current x s.earlier s.frames t e

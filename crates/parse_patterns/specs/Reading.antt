@@ -16,7 +16,7 @@ stepped s x = if admits s x then Some (advanced s x) else None
 
 abbrev pub is_ended : Current → Bool
 is_ended (InType name type) = is_simple type
-is_ended (InInfix n) = is_whole n.spot
+is_ended (InInfix n) = is_whole n.tail
 
 abbrev pub reader : Machine State Lexeme
 reader = record { start = begun; step = stepped; whole = λ s. is_nil s.frames && is_ended s.current }

@@ -16,8 +16,8 @@ use Rattle.parse_parts.specs.declared.states.Count.{Count}
 use Rattle.parse_parts.specs.declared.states.Count.TheVariants as count
 use Rattle.parse_parts.specs.declared.states.Path.{Path}
 use Rattle.parse_parts.specs.declared.states.Frame.{Frame as TypeFrame}
-use Rattle.parse_parts.specs.declared.states.Spot.{Spot as TypeSpot}
-use Rattle.parse_parts.specs.declared.states.Spot.TheVariants as type_spot
+use Rattle.parse_parts.specs.declared.states.Tail.{Tail as TypeTail}
+use Rattle.parse_parts.specs.declared.states.Tail.TheVariants as type_tail
 use Rattle.parse_parts.specs.declared.states.State.{State as TypeState}
 use Rattle.parse_parts.specs.declared.symbols.Symbol.{Symbol as TypeSymbol}
 use Rattle.parse_parts.specs.declared.symbols.Symbol.TheVariants as type_symbol
@@ -37,8 +37,8 @@ use Rattle.parse_patterns.specs.declared.states.Lead.{Lead}
 use Rattle.parse_patterns.specs.declared.states.Lead.TheVariants as lead
 use Rattle.parse_patterns.specs.declared.states.Operand.{Operand}
 use Rattle.parse_patterns.specs.declared.states.Operation.{Operation}
-use Rattle.parse_patterns.specs.declared.states.Spot.{Spot}
-use Rattle.parse_patterns.specs.declared.states.Spot.TheVariants.{Begin, AtWild, AtPath, AtDot, AtEnded}
+use Rattle.parse_patterns.specs.declared.states.Tail.{Tail}
+use Rattle.parse_patterns.specs.declared.states.Tail.TheVariants.{Begin, AtWild, AtPath, AtDot, AtEnded}
 use Rattle.parse_patterns.specs.declared.states.State.{State}
 use Rattle.parse_patterns.specs.declared.symbols.Symbol.{Symbol}
 use Rattle.parse_patterns.specs.declared.symbols.Symbol.TheVariants as symbol
@@ -64,7 +64,7 @@ path_pattern path lead = record {
   span = from_to path.start path.name.span.end;
 }
 
-abbrev pub operand_at : Spot → Operand
+abbrev pub operand_at : Tail → Operand
 operand_at (AtWild span) = wild span
 operand_at (AtPath path lead) = path_pattern path lead
 operand_at (AtEnded operand) = operand
@@ -81,12 +81,12 @@ bound (Some name) operand = record {
 -- x: T
 abbrev pub typed : Name → TypeState → Operand
 typed name type = record {
-  tall = node kind.TypedPat name.text name.span (from_to name.span.start (types.spot_end type.spot)) (alone (types.spot_tree type.spot));
-  span = from_to name.span.start (types.spot_end type.spot);
+  tall = node kind.TypedPat name.text name.span (from_to name.span.start (types.tail_end type.tail)) (alone (types.tail_tree type.tail));
+  span = from_to name.span.start (types.tail_end type.tail);
 }
 
 abbrev pub infix_at : Infix → Operand
-infix_at n = bound n.binder (settled n.operations (operand_at n.spot))
+infix_at n = bound n.binder (settled n.operations (operand_at n.tail))
 
 abbrev pub alternative_at : Current → Operand
 alternative_at (InType name type) = typed name type
@@ -112,7 +112,7 @@ abbrev pub is_no : Newline → Bool
 is_no No = true
 is_no _ = false
 
-abbrev pub is_whole : Spot → Bool
+abbrev pub is_whole : Tail → Bool
 is_whole Begin = false
 is_whole (AtDot path) = false
 is_whole _ = true
@@ -131,32 +131,32 @@ may_stand _ [] _ before = true
 abbrev pub may_begin : Infix → Option Earlier → Newline → Bool
 may_begin n earlier before = may_stand n.binder n.operations earlier before
 
-abbrev pub is_begin : Spot → Bool
+abbrev pub is_begin : Tail → Bool
 is_begin Begin = true
 is_begin _ = false
 
-abbrev pub is_path : Spot → Bool
+abbrev pub is_path : Tail → Bool
 is_path (AtPath path lead) = true
 is_path _ = false
 
 -- what may stand before `:`
-abbrev pub is_named : Spot → Bool
+abbrev pub is_named : Tail → Bool
 is_named (AtWild span) = true
 is_named (AtPath path lead) = is_var_lead lead
 is_named _ = false
 
 -- what may stand before `@`
-abbrev pub is_var_spot : Spot → Bool
-is_var_spot (AtPath path lead) = is_var_lead lead
-is_var_spot _ = false
+abbrev pub is_var_tail : Tail → Bool
+is_var_tail (AtPath path lead) = is_var_lead lead
+is_var_tail _ = false
 
 abbrev pub is_minus_lead : Lead → Bool
 is_minus_lead lead.Minus = true
 is_minus_lead _ = false
 
-abbrev pub is_minus_spot : Spot → Bool
-is_minus_spot (AtPath path lead) = is_minus_lead lead
-is_minus_spot _ = false
+abbrev pub is_minus_tail : Tail → Bool
+is_minus_tail (AtPath path lead) = is_minus_lead lead
+is_minus_tail _ = false
 
 abbrev pub is_group : Bracket → Bool
 is_group (Group start) = true
@@ -190,34 +190,34 @@ may_end symbol.Comma frames x = may_part (first frames)
 may_end symbol.CloseRound frames x = may_close (first frames)
 may_end _ frames x = false
 
-abbrev pub may_name : Spot → Infix → Option Earlier → Lexeme → Bool
+abbrev pub may_name : Tail → Infix → Option Earlier → Lexeme → Bool
 may_name Begin n earlier x = may_begin n earlier x.place.before
 may_name (AtDot path) n earlier x = true
 may_name _ n earlier x = is_no x.place.before && (is_bar (id_of x) || operator_fits n.operations x)
 
-abbrev pub may_number : Spot → Infix → Option Earlier → Lexeme → Bool
+abbrev pub may_number : Tail → Infix → Option Earlier → Lexeme → Bool
 may_number Begin n earlier x = may_begin n earlier x.place.before
-may_number spot n earlier x = is_minus_spot spot && is_no x.place.before
+may_number tail n earlier x = is_minus_tail tail && is_no x.place.before
 
-abbrev pub may_open : Spot → Infix → Option Earlier → Lexeme → Bool
+abbrev pub may_open : Tail → Infix → Option Earlier → Lexeme → Bool
 may_open Begin n earlier x = may_begin n earlier x.place.before
-may_open spot n earlier x = is_path spot && is_no x.place.before
+may_open tail n earlier x = is_path tail && is_no x.place.before
 
-abbrev pub may_close_at : Spot → Infix → Option Earlier → List Frame → Bool
+abbrev pub may_close_at : Tail → Infix → Option Earlier → List Frame → Bool
 may_close_at Begin n earlier frames = is_fresh n.binder n.operations && (is_none earlier && may_empty (first frames))
-may_close_at spot n earlier frames = is_whole spot && may_close (first frames)
+may_close_at tail n earlier frames = is_whole tail && may_close (first frames)
 
 abbrev pub admits_infix : Symbol → List Frame → Option Earlier → Infix → Lexeme → Bool
-admits_infix symbol.Id frames earlier n x = may_name n.spot n earlier x
-admits_infix symbol.Number frames earlier n x = may_number n.spot n earlier x
-admits_infix symbol.Literal frames earlier n x = is_begin n.spot && may_begin n earlier x.place.before
-admits_infix symbol.Underscore frames earlier n x = is_begin n.spot && may_begin n earlier x.place.before
-admits_infix symbol.Colon frames earlier n x = is_named n.spot && is_fresh n.binder n.operations
-admits_infix symbol.At frames earlier n x = is_var_spot n.spot && (is_fresh n.binder n.operations && is_no x.place.before)
-admits_infix symbol.OpenRound frames earlier n x = may_open n.spot n earlier x
-admits_infix symbol.CloseRound frames earlier n x = may_close_at n.spot n earlier frames
-admits_infix symbol.Comma frames earlier n x = is_whole n.spot && may_part (first frames)
-admits_infix symbol.Dot frames earlier n x = is_path n.spot
+admits_infix symbol.Id frames earlier n x = may_name n.tail n earlier x
+admits_infix symbol.Number frames earlier n x = may_number n.tail n earlier x
+admits_infix symbol.Literal frames earlier n x = is_begin n.tail && may_begin n earlier x.place.before
+admits_infix symbol.Underscore frames earlier n x = is_begin n.tail && may_begin n earlier x.place.before
+admits_infix symbol.Colon frames earlier n x = is_named n.tail && is_fresh n.binder n.operations
+admits_infix symbol.At frames earlier n x = is_var_tail n.tail && (is_fresh n.binder n.operations && is_no x.place.before)
+admits_infix symbol.OpenRound frames earlier n x = may_open n.tail n earlier x
+admits_infix symbol.CloseRound frames earlier n x = may_close_at n.tail n earlier frames
+admits_infix symbol.Comma frames earlier n x = is_whole n.tail && may_part (first frames)
+admits_infix symbol.Dot frames earlier n x = is_path n.tail
 admits_infix symbol.Other frames earlier n x = false
 
 -- ---- types
@@ -230,8 +230,8 @@ is_alone [] = false
 is_alone (f ∷ []) = true
 is_alone (f ∷ g ∷ fs) = false
 
-abbrev pub is_type_begin : TypeSpot → Bool
-is_type_begin type_spot.Begin = true
+abbrev pub is_type_begin : TypeTail → Bool
+is_type_begin type_tail.Begin = true
 is_type_begin _ = false
 
 -- parentheses of a Simple in which three types were begun
@@ -244,7 +244,7 @@ is_full (f ∷ g ∷ fs) = false
 abbrev pub leaves : TypeState → TypeSymbol → Bool
 leaves type type_symbol.Arrow = is_nil type.frames
 leaves type type_symbol.Comma = is_full type.frames
-leaves type type_symbol.CloseRound = is_alone type.frames && is_type_begin type.spot
+leaves type type_symbol.CloseRound = is_alone type.frames && is_type_begin type.tail
 leaves type _ = false
 
 -- A Simple goes on.
@@ -252,7 +252,7 @@ abbrev pub type_goes_on : TypeState → TypeSymbol → Bool
 type_goes_on type symbol = not (leaves type symbol) && types.admits type symbol
 
 abbrev pub is_simple : TypeState → Bool
-is_simple type = is_nil type.frames && (is_nil type.heads && types.is_whole type.spot)
+is_simple type = is_nil type.frames && (is_nil type.heads && types.is_whole type.tail)
 
 abbrev pub admits_typed : List Frame → TypeState → Lexeme → Bool
 admits_typed frames type x = type_goes_on type (type_symbol_of x) || (is_simple type && may_end (symbol_of x.kind x.word) frames x)
@@ -267,13 +267,13 @@ admits s x = admits_at s.current s.frames s.earlier x
 -- ---- the state after an admitted token; others leave it as it is
 
 abbrev pub nothing_yet : Infix
-nothing_yet = record { binder = None; operations = []; spot = Begin }
+nothing_yet = record { binder = None; operations = []; tail = Begin }
 
-abbrev pub at_spot : List Frame → Option Earlier → Infix → Spot → State
-at_spot frames earlier n spot = record {
+abbrev pub at_tail : List Frame → Option Earlier → Infix → Tail → State
+at_tail frames earlier n tail = record {
   frames = frames;
   earlier = earlier;
-  current = InInfix (record { binder = n.binder; operations = n.operations; spot = spot });
+  current = InInfix (record { binder = n.binder; operations = n.operations; tail = tail });
 }
 
 abbrev pub path_begun : Lexeme → Path
@@ -288,8 +288,8 @@ operated frames earlier n x = record {
   earlier = earlier;
   current = InInfix (record {
     binder = n.binder;
-    operations = waiting (folded n.operations (precedence x.word) (operand_at n.spot)) (record { text = x.word; span = x.place.span }) (precedence x.word) (is_right x.word);
-    spot = Begin;
+    operations = waiting (folded n.operations (precedence x.word) (operand_at n.tail)) (record { text = x.word; span = x.place.span }) (precedence x.word) (is_right x.word);
+    tail = Begin;
   });
 }
 
@@ -320,7 +320,7 @@ abbrev pub behind_frame : Frame → List Frame → Operand → State
 behind_frame f fs operand = record {
   frames = fs;
   earlier = f.earlier;
-  current = InInfix (record { binder = f.binder; operations = f.operations; spot = AtEnded operand });
+  current = InInfix (record { binder = f.binder; operations = f.operations; tail = AtEnded operand });
 }
 
 abbrev pub closed : List Frame → Option Tall → ℕ → State
@@ -337,27 +337,27 @@ ended symbol.Comma frames earlier operand x = parted frames (with_earlier earlie
 ended symbol.CloseRound frames earlier operand x = closed frames (with_earlier earlier operand) x.place.span.end
 ended _ frames earlier operand x = barred frames earlier operand
 
-abbrev pub named : Spot → List Frame → Option Earlier → Infix → Lexeme → State
-named Begin frames earlier n x = at_spot frames earlier n (AtPath (path_begun x) (lead_of (id_of x)))
-named (AtDot path) frames earlier n x = at_spot frames earlier n (AtPath (path_longer path x) lead.Plain)
+abbrev pub named : Tail → List Frame → Option Earlier → Infix → Lexeme → State
+named Begin frames earlier n x = at_tail frames earlier n (AtPath (path_begun x) (lead_of (id_of x)))
+named (AtDot path) frames earlier n x = at_tail frames earlier n (AtPath (path_longer path x) lead.Plain)
 named _ frames earlier n x = if is_bar (id_of x) then barred frames earlier (infix_at n) else operated frames earlier n x
 
-abbrev pub numbered : Spot → Lexeme → Operand
+abbrev pub numbered : Tail → Lexeme → Operand
 numbered (AtPath path lead) x = leaf (codes "-" ++ x.word) (from_to path.start x.place.span.end)
 numbered _ x = leaf x.word x.place.span
 
-abbrev pub type_from : Spot → List Frame → Option Earlier → Infix → State
+abbrev pub type_from : Tail → List Frame → Option Earlier → Infix → State
 type_from (AtWild span) frames earlier n = record { frames = frames; earlier = earlier; current = InType (record { text = codes "_"; span = span }) type_begun }
 type_from (AtPath path lead) frames earlier n = record { frames = frames; earlier = earlier; current = InType path.name type_begun }
-type_from spot frames earlier n = record { frames = frames; earlier = earlier; current = InInfix n }
+type_from tail frames earlier n = record { frames = frames; earlier = earlier; current = InInfix n }
 
-abbrev pub binder_from : Spot → List Frame → Option Earlier → Infix → State
+abbrev pub binder_from : Tail → List Frame → Option Earlier → Infix → State
 binder_from (AtPath path lead) frames earlier n = record {
   frames = frames;
   earlier = earlier;
-  current = InInfix (record { binder = Some path.name; operations = []; spot = Begin });
+  current = InInfix (record { binder = Some path.name; operations = []; tail = Begin });
 }
-binder_from spot frames earlier n = record { frames = frames; earlier = earlier; current = InInfix n }
+binder_from tail frames earlier n = record { frames = frames; earlier = earlier; current = InInfix n }
 
 abbrev pub opened_with : Bracket → Option Kids → List Frame → Option Earlier → Infix → State
 opened_with bracket kids frames earlier n = record {
@@ -366,29 +366,29 @@ opened_with bracket kids frames earlier n = record {
   current = InInfix nothing_yet;
 }
 
-abbrev pub opened : Spot → List Frame → Option Earlier → Infix → ℕ → State
+abbrev pub opened : Tail → List Frame → Option Earlier → Infix → ℕ → State
 opened (AtPath path lead) frames earlier n start = opened_with (Call path.start path.name) path.prefix frames earlier n
 opened _ frames earlier n start = opened_with (Group start) no_kids frames earlier n
 
-abbrev pub closed_at : Spot → List Frame → Option Earlier → Infix → ℕ → State
+abbrev pub closed_at : Tail → List Frame → Option Earlier → Infix → ℕ → State
 closed_at Begin frames earlier n end = emptied frames end
 closed_at _ frames earlier n end = closed frames (with_earlier earlier (infix_at n)) end
 
-abbrev pub dotted : Spot → List Frame → Option Earlier → Infix → State
-dotted (AtPath path lead) frames earlier n = at_spot frames earlier n (AtDot path)
-dotted spot frames earlier n = record { frames = frames; earlier = earlier; current = InInfix n }
+abbrev pub dotted : Tail → List Frame → Option Earlier → Infix → State
+dotted (AtPath path lead) frames earlier n = at_tail frames earlier n (AtDot path)
+dotted tail frames earlier n = record { frames = frames; earlier = earlier; current = InInfix n }
 
 abbrev pub advanced_infix : Symbol → List Frame → Option Earlier → Infix → Lexeme → State
-advanced_infix symbol.Id frames earlier n x = named n.spot frames earlier n x
-advanced_infix symbol.Number frames earlier n x = at_spot frames earlier n (AtEnded (numbered n.spot x))
-advanced_infix symbol.Literal frames earlier n x = at_spot frames earlier n (AtEnded (leaf x.word x.place.span))
-advanced_infix symbol.Underscore frames earlier n x = at_spot frames earlier n (AtWild x.place.span)
-advanced_infix symbol.Colon frames earlier n x = type_from n.spot frames earlier n
-advanced_infix symbol.At frames earlier n x = binder_from n.spot frames earlier n
-advanced_infix symbol.OpenRound frames earlier n x = opened n.spot frames earlier n x.place.span.start
-advanced_infix symbol.CloseRound frames earlier n x = closed_at n.spot frames earlier n x.place.span.end
+advanced_infix symbol.Id frames earlier n x = named n.tail frames earlier n x
+advanced_infix symbol.Number frames earlier n x = at_tail frames earlier n (AtEnded (numbered n.tail x))
+advanced_infix symbol.Literal frames earlier n x = at_tail frames earlier n (AtEnded (leaf x.word x.place.span))
+advanced_infix symbol.Underscore frames earlier n x = at_tail frames earlier n (AtWild x.place.span)
+advanced_infix symbol.Colon frames earlier n x = type_from n.tail frames earlier n
+advanced_infix symbol.At frames earlier n x = binder_from n.tail frames earlier n
+advanced_infix symbol.OpenRound frames earlier n x = opened n.tail frames earlier n x.place.span.start
+advanced_infix symbol.CloseRound frames earlier n x = closed_at n.tail frames earlier n x.place.span.end
 advanced_infix symbol.Comma frames earlier n x = parted frames (with_earlier earlier (infix_at n))
-advanced_infix symbol.Dot frames earlier n x = dotted n.spot frames earlier n
+advanced_infix symbol.Dot frames earlier n x = dotted n.tail frames earlier n
 advanced_infix symbol.Other frames earlier n x = record { frames = frames; earlier = earlier; current = InInfix n }
 
 abbrev pub advanced_typed : List Frame → Option Earlier → Name → TypeState → Lexeme → State

@@ -10,11 +10,11 @@ ghost use Rattle.parse_patterns.specs.Symbols.{symbol_of};
 
 use crate::names::{is_bar, is_right, precedence};
 use crate::operators::fits;
-use crate::states::{Bracket, Current, Earlier, Frame, Infix, Lead, Operation, Spot, State};
+use crate::states::{Bracket, Current, Earlier, Frame, Infix, Lead, Operation, State, Tail};
 use crate::symbols::{Symbol, read_symbol};
 use parse_parts::stack::Stack;
 use parse_parts::states::{
-    Bracket as TypeBracket, Count, Frame as TypeFrame, Spot as TypeSpot, State as TypeState,
+    Bracket as TypeBracket, Count, Frame as TypeFrame, State as TypeState, Tail as TypeTail,
 };
 use parse_parts::{Symbol as TypeSymbol, read_symbol as read_type_symbol, steps};
 use scan_tokens::{Newline, Token};
@@ -32,10 +32,10 @@ fn is_near(before: Newline) -> bool
 }
 
 /// Whether an operand can end here.
-pub fn is_whole(spot: &Spot) -> bool
-    ensures { result ≡ spec.is_whole spot.now }
+pub fn is_whole(tail: &Tail) -> bool
+    ensures { result ≡ spec.is_whole tail.now }
 {
-    !matches!(spot, Spot::Begin | Spot::AtDot(_))
+    !matches!(tail, Tail::Begin | Tail::AtDot(_))
 }
 
 fn is_fresh(chain: &Infix) -> bool
@@ -101,61 +101,61 @@ fn may_end(symbol: Symbol, frames: &Stack<Frame>, token: Token, word: &str) -> b
 }
 
 fn may_name(chain: &Infix, earlier: &Option<Earlier>, token: Token, word: &str) -> bool
-    ensures { result ≡ spec.may_name chain.now.spot chain.now earlier.now (lexeme_with token word.now) }
+    ensures { result ≡ spec.may_name chain.now.tail chain.now earlier.now (lexeme_with token word.now) }
 {
-    match chain.spot {
-        Spot::Begin => may_begin(chain, earlier, token.before),
-        Spot::AtDot(_) => true,
+    match chain.tail {
+        Tail::Begin => may_begin(chain, earlier, token.before),
+        Tail::AtDot(_) => true,
         _ => is_no(token.before)
             && (is_bar(token, word) || operator_fits(&chain.operations, token, word)),
     }
 }
 
 fn may_number(chain: &Infix, earlier: &Option<Earlier>, token: Token, word: &str) -> bool
-    ensures { result ≡ spec.may_number chain.now.spot chain.now earlier.now (lexeme_with token word.now) }
+    ensures { result ≡ spec.may_number chain.now.tail chain.now earlier.now (lexeme_with token word.now) }
 {
-    match chain.spot {
-        Spot::Begin => may_begin(chain, earlier, token.before),
-        Spot::AtPath(_, Lead::Minus) => is_no(token.before),
+    match chain.tail {
+        Tail::Begin => may_begin(chain, earlier, token.before),
+        Tail::AtPath(_, Lead::Minus) => is_no(token.before),
         _ => false,
     }
 }
 
 fn may_open(chain: &Infix, earlier: &Option<Earlier>, token: Token, word: &str) -> bool
-    ensures { result ≡ spec.may_open chain.now.spot chain.now earlier.now (lexeme_with token word.now) }
+    ensures { result ≡ spec.may_open chain.now.tail chain.now earlier.now (lexeme_with token word.now) }
 {
-    match chain.spot {
-        Spot::Begin => may_begin(chain, earlier, token.before),
-        Spot::AtPath(..) => is_no(token.before),
+    match chain.tail {
+        Tail::Begin => may_begin(chain, earlier, token.before),
+        Tail::AtPath(..) => is_no(token.before),
         _ => false,
     }
 }
 
 fn may_close_at(chain: &Infix, earlier: &Option<Earlier>, frames: &Stack<Frame>) -> bool
-    ensures { result ≡ spec.may_close_at chain.now.spot chain.now earlier.now frames.now }
+    ensures { result ≡ spec.may_close_at chain.now.tail chain.now earlier.now frames.now }
 {
-    match chain.spot {
-        Spot::Begin => is_fresh(chain) && earlier.is_none() && may_empty(frames),
-        _ => is_whole(&chain.spot) && may_close(frames),
+    match chain.tail {
+        Tail::Begin => is_fresh(chain) && earlier.is_none() && may_empty(frames),
+        _ => is_whole(&chain.tail) && may_close(frames),
     }
 }
 
-fn is_begin(spot: &Spot) -> bool
-    ensures { result ≡ spec.is_begin spot.now }
+fn is_begin(tail: &Tail) -> bool
+    ensures { result ≡ spec.is_begin tail.now }
 {
-    matches!(spot, Spot::Begin)
+    matches!(tail, Tail::Begin)
 }
 
-fn is_named(spot: &Spot) -> bool
-    ensures { result ≡ spec.is_named spot.now }
+fn is_named(tail: &Tail) -> bool
+    ensures { result ≡ spec.is_named tail.now }
 {
-    matches!(spot, Spot::AtWild(_) | Spot::AtPath(_, Lead::Var))
+    matches!(tail, Tail::AtWild(_) | Tail::AtPath(_, Lead::Var))
 }
 
-fn is_var_spot(spot: &Spot) -> bool
-    ensures { result ≡ spec.is_var_spot spot.now }
+fn is_var_tail(tail: &Tail) -> bool
+    ensures { result ≡ spec.is_var_tail tail.now }
 {
-    matches!(spot, Spot::AtPath(_, Lead::Var))
+    matches!(tail, Tail::AtPath(_, Lead::Var))
 }
 
 fn admits_infix(
@@ -170,14 +170,14 @@ fn admits_infix(
     match read_symbol(token.kind, word.as_bytes()) {
         Symbol::Id => may_name(chain, earlier, token, word),
         Symbol::Number => may_number(chain, earlier, token, word),
-        Symbol::Literal | Symbol::Underscore => is_begin(&chain.spot)
+        Symbol::Literal | Symbol::Underscore => is_begin(&chain.tail)
             && may_begin(chain, earlier, token.before),
-        Symbol::Colon => is_named(&chain.spot) && is_fresh(chain),
-        Symbol::At => is_var_spot(&chain.spot) && is_fresh(chain) && is_no(token.before),
+        Symbol::Colon => is_named(&chain.tail) && is_fresh(chain),
+        Symbol::At => is_var_tail(&chain.tail) && is_fresh(chain) && is_no(token.before),
         Symbol::OpenRound => may_open(chain, earlier, token, word),
         Symbol::CloseRound => may_close_at(chain, earlier, frames),
-        Symbol::Comma => is_whole(&chain.spot) && may_part(frames),
-        Symbol::Dot => matches!(chain.spot, Spot::AtPath(..)),
+        Symbol::Comma => is_whole(&chain.tail) && may_part(frames),
+        Symbol::Dot => matches!(chain.tail, Tail::AtPath(..)),
         Symbol::Other => false,
     }
 }
@@ -205,7 +205,7 @@ fn leaves(ty: &TypeState, symbol: TypeSymbol) -> bool
     match symbol {
         TypeSymbol::Arrow => ty.frames.is_empty(),
         TypeSymbol::Comma => is_full(&ty.frames),
-        TypeSymbol::CloseRound => is_alone(&ty.frames) && matches!(ty.spot, TypeSpot::Begin),
+        TypeSymbol::CloseRound => is_alone(&ty.frames) && matches!(ty.tail, TypeTail::Begin),
         _ => false,
     }
 }
@@ -221,7 +221,7 @@ pub fn type_goes_on(ty: &TypeState, symbol: TypeSymbol) -> bool
 pub fn is_simple(ty: &TypeState) -> bool
     ensures { result ≡ spec.is_simple ty.now }
 {
-    ty.frames.is_empty() && ty.heads.is_empty() && steps::is_whole(&ty.spot)
+    ty.frames.is_empty() && ty.heads.is_empty() && steps::is_whole(&ty.tail)
 }
 
 fn admits_typed(frames: &Stack<Frame>, ty: &TypeState, token: Token, word: &str) -> bool

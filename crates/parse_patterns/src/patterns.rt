@@ -6,10 +6,10 @@ ghost use Rattle.parse_parts.specs.Built.{no_kids as no_trees};
 ghost use Rattle.parse_patterns.specs.Steps as spec;
 
 use crate::operators::settled;
-use crate::states::{Current, Earlier, Infix, Lead, Operand, Spot, State};
+use crate::states::{Current, Earlier, Infix, Lead, Operand, State, Tail};
 use parse_parts::built::{Tall, joined, no_kids, node};
 use parse_parts::states::{Path, State as TypeState};
-use parse_parts::steps::{alone, no_label, spot_end, spot_tree};
+use parse_parts::steps::{alone, no_label, tail_end, tail_tree};
 use pc_terms::{NoMemory, Span, Text, TreeKind};
 use positioned_trees::Name;
 use std::alloc::Global;
@@ -50,15 +50,15 @@ fn path_pattern(path: Path, lead: Lead) -> Operand
     }
 }
 
-/// The operand that ends at a spot.
-pub fn operand_at(alloc: Global, spot: Spot) -> Operand
-    ensures { result ≡ spec.operand_at spot }
+/// The operand that ends at a tail.
+pub fn operand_at(alloc: Global, tail: Tail) -> Operand
+    ensures { result ≡ spec.operand_at tail }
 {
-    match spot {
-        Spot::AtWild(span) => wild(alloc, span),
-        Spot::AtPath(path, lead) => path_pattern(path, lead),
-        Spot::AtEnded(operand) => operand,
-        Spot::Begin | Spot::AtDot(_) => Operand {
+    match tail {
+        Tail::AtWild(span) => wild(alloc, span),
+        Tail::AtPath(path, lead) => path_pattern(path, lead),
+        Tail::AtEnded(operand) => operand,
+        Tail::Begin | Tail::AtDot(_) => Operand {
             tall: None,
             span: Span { start: 0, end: 0 },
         },
@@ -88,9 +88,9 @@ pub fn typed(alloc: Global, name: Name, ty: TypeState) -> Result<Operand, NoMemo
 {
     let span = Span {
         start: name.span.start,
-        end: spot_end(&ty.spot),
+        end: tail_end(&ty.tail),
     };
-    let kids = alone(alloc, spot_tree(alloc, ty.spot))?;
+    let kids = alone(alloc, tail_tree(alloc, ty.tail))?;
     Ok(Operand {
         tall: node(TreeKind::TypedPat, name.text, name.span, span, kids),
         span,
@@ -101,7 +101,7 @@ pub fn typed(alloc: Global, name: Name, ty: TypeState) -> Result<Operand, NoMemo
 pub fn infix_at(alloc: Global, chain: Infix) -> Result<Operand, NoMemory>
     ensures { IfOk result (λ now. now ≡ spec.infix_at chain) }
 {
-    let last = operand_at(alloc, chain.spot);
+    let last = operand_at(alloc, chain.tail);
     bound(alloc, chain.binder, settled(alloc, chain.operations, last)?)
 }
 

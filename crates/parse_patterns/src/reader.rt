@@ -48,7 +48,7 @@ fn is_pattern(state: &State) -> bool
     state.frames.is_empty()
         && match &state.current {
             Current::InType(_, ty) => is_simple(ty),
-            Current::InInfix(chain) => is_whole(&chain.spot),
+            Current::InInfix(chain) => is_whole(&chain.tail),
         }
 }
 

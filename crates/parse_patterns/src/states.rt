@@ -33,7 +33,7 @@ pub enum Lead {
 
 /// What was read since the last operator, stroke, comma or opening bracket.
 #[derive(Debug, Drop)]
-pub enum Spot {
+pub enum Tail {
     Begin,
     AtWild(Span),
     AtPath(Path, Lead),
@@ -46,7 +46,7 @@ pub enum Spot {
 pub struct Infix {
     pub binder: Option<Name>,
     pub operations: Stack<Operation>,
-    pub spot: Spot,
+    pub tail: Tail,
 }
 
 /// The alternative that is read.

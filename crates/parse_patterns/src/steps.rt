@@ -4,7 +4,7 @@ ghost use Rattle.std.specs.Prelude.{◌≡◌, IfOk};
 ghost use Rattle.parse_parts.specs.Steps.{from_to, path_term as path_as_term};
 ghost use Rattle.parse_parts.specs.Reading.{begun};
 ghost use Rattle.parse_patterns.specs.declared.states.Current.TheVariants.{InInfix};
-ghost use Rattle.parse_patterns.specs.declared.states.Spot.TheVariants.{AtEnded};
+ghost use Rattle.parse_patterns.specs.declared.states.Tail.TheVariants.{AtEnded};
 ghost use Rattle.parse_patterns.specs.Names.{lexeme_with};
 ghost use Rattle.parse_patterns.specs.Steps as spec;
 ghost use Rattle.parse_patterns.specs.Symbols.{symbol_of};
@@ -13,12 +13,12 @@ use crate::admitting::type_goes_on;
 use crate::names::{is_bar, is_right, lead, precedence};
 use crate::operators::pushed;
 use crate::patterns::{infix_at, leaf, operand_at, then_later, typed, with_earlier};
-use crate::states::{Bracket, Current, Earlier, Frame, Infix, Lead, Operand, Spot, State};
+use crate::states::{Bracket, Current, Earlier, Frame, Infix, Lead, Operand, State, Tail};
 use crate::symbols::{Symbol, read_symbol};
 use parse_parts::built::{Kids, Tall, joined, no_kids, node, only};
 use parse_parts::read_symbol as read_type_symbol;
 use parse_parts::stack::Stack;
-use parse_parts::states::{Count, Path, Spot as TypeSpot, State as TypeState};
+use parse_parts::states::{Count, Path, State as TypeState, Tail as TypeTail};
 use parse_parts::steps::{advance as advance_type, alone, counted, no_label, path_term};
 use pc_terms::{NoMemory, Span, Text, TreeKind};
 use positioned_trees::Name;
@@ -31,12 +31,12 @@ pub fn nothing_yet(alloc: Global) -> Current
     Current::InInfix(Infix {
         binder: None,
         operations: Stack::new(alloc),
-        spot: Spot::Begin,
+        tail: Tail::Begin,
     })
 }
 
-fn at_spot(frames: Stack<Frame>, earlier: Option<Earlier>, chain: Infix, spot: Spot) -> State
-    ensures { result ≡ spec.at_spot frames earlier chain spot }
+fn at_tail(frames: Stack<Frame>, earlier: Option<Earlier>, chain: Infix, tail: Tail) -> State
+    ensures { result ≡ spec.at_tail frames earlier chain tail }
 {
     State {
         frames,
@@ -44,7 +44,7 @@ fn at_spot(frames: Stack<Frame>, earlier: Option<Earlier>, chain: Infix, spot: S
         current: Current::InInfix(Infix {
             binder: chain.binder,
             operations: chain.operations,
-            spot,
+            tail,
         }),
     }
 }
@@ -90,13 +90,13 @@ fn operated(
     let Infix {
         binder,
         operations,
-        spot,
+        tail,
     } = chain;
     let name = Name {
         text: Text::new(alloc, word)?,
         span: token.span,
     };
-    let last = operand_at(alloc, spot);
+    let last = operand_at(alloc, tail);
     let operations = pushed(
         alloc,
         operations,
@@ -111,7 +111,7 @@ fn operated(
         current: Current::InInfix(Infix {
             binder,
             operations,
-            spot: Spot::Begin,
+            tail: Tail::Begin,
         }),
     })
 }
@@ -230,7 +230,7 @@ fn closed(
         current: Current::InInfix(Infix {
             binder: frame.binder,
             operations: frame.operations,
-            spot: Spot::AtEnded(operand),
+            tail: Tail::AtEnded(operand),
         }),
     })
 }
@@ -253,7 +253,7 @@ fn emptied(alloc: Global, frames: Stack<Frame>, end: u32) -> Result<State, NoMem
         current: Current::InInfix(Infix {
             binder: frame.binder,
             operations: frame.operations,
-            spot: Spot::AtEnded(operand),
+            tail: Tail::AtEnded(operand),
         }),
     })
 }
@@ -287,21 +287,21 @@ fn named(
     token: Token,
     word: &str,
 ) -> Result<State, NoMemory>
-    ensures { IfOk result (λ now. now ≡ spec.named chain.spot frames earlier chain (lexeme_with token word.now)) }
+    ensures { IfOk result (λ now. now ≡ spec.named chain.tail frames earlier chain (lexeme_with token word.now)) }
 {
     let Infix {
         binder,
         operations,
-        spot,
+        tail,
     } = chain;
-    let spot = match spot {
-        Spot::Begin => Spot::AtPath(path_begun(alloc, token, word)?, lead(token, word)),
-        Spot::AtDot(path) => Spot::AtPath(path_longer(alloc, path, token, word)?, Lead::Plain),
-        spot => {
+    let tail = match tail {
+        Tail::Begin => Tail::AtPath(path_begun(alloc, token, word)?, lead(token, word)),
+        Tail::AtDot(path) => Tail::AtPath(path_longer(alloc, path, token, word)?, Lead::Plain),
+        tail => {
             let chain = Infix {
                 binder,
                 operations,
-                spot,
+                tail,
             };
             return if is_bar(token, word) {
                 barred(alloc, frames, earlier, infix_at(alloc, chain)?)
@@ -316,16 +316,16 @@ fn named(
         current: Current::InInfix(Infix {
             binder,
             operations,
-            spot,
+            tail,
         }),
     })
 }
 
-fn numbered(alloc: Global, spot: Spot, token: Token, word: &str) -> Result<Operand, NoMemory>
-    ensures { IfOk result (λ now. now ≡ spec.numbered spot (lexeme_with token word.now)) }
+fn numbered(alloc: Global, tail: Tail, token: Token, word: &str) -> Result<Operand, NoMemory>
+    ensures { IfOk result (λ now. now ≡ spec.numbered tail (lexeme_with token word.now)) }
 {
-    match spot {
-        Spot::AtPath(path, _) => {
+    match tail {
+        Tail::AtPath(path, _) => {
             let mut text = Text::new(alloc, "-")?;
             text.push_str(word)?;
             let span = Span {
@@ -334,7 +334,7 @@ fn numbered(alloc: Global, spot: Spot, token: Token, word: &str) -> Result<Opera
             };
             Ok(leaf(alloc, text, span))
         }
-        _spot => Ok(leaf(alloc, Text::new(alloc, word)?, token.span)),
+        _tail => Ok(leaf(alloc, Text::new(alloc, word)?, token.span)),
     }
 }
 
@@ -344,7 +344,7 @@ fn type_begun(alloc: Global) -> TypeState
     TypeState {
         frames: Stack::new(alloc),
         heads: Stack::new(alloc),
-        spot: TypeSpot::Begin,
+        tail: TypeTail::Begin,
     }
 }
 
@@ -354,23 +354,23 @@ fn type_from(
     earlier: Option<Earlier>,
     chain: Infix,
 ) -> Result<State, NoMemory>
-    ensures { IfOk result (λ now. now ≡ spec.type_from chain.spot frames earlier chain) }
+    ensures { IfOk result (λ now. now ≡ spec.type_from chain.tail frames earlier chain) }
 {
     let Infix {
         binder,
         operations,
-        spot,
+        tail,
     } = chain;
-    let current = match spot {
-        Spot::AtWild(span) => {
+    let current = match tail {
+        Tail::AtWild(span) => {
             let text = Text::new(alloc, "_")?;
             Current::InType(Name { text, span }, type_begun(alloc))
         }
-        Spot::AtPath(path, _) => Current::InType(path.name, type_begun(alloc)),
-        spot => Current::InInfix(Infix {
+        Tail::AtPath(path, _) => Current::InType(path.name, type_begun(alloc)),
+        tail => Current::InInfix(Infix {
             binder,
             operations,
-            spot,
+            tail,
         }),
     };
     Ok(State {
@@ -381,23 +381,23 @@ fn type_from(
 }
 
 fn binder_from(alloc: Global, frames: Stack<Frame>, earlier: Option<Earlier>, chain: Infix) -> State
-    ensures { result ≡ spec.binder_from chain.spot frames earlier chain }
+    ensures { result ≡ spec.binder_from chain.tail frames earlier chain }
 {
     let Infix {
         binder,
         operations,
-        spot,
+        tail,
     } = chain;
-    let current = match spot {
-        Spot::AtPath(path, _) => Current::InInfix(Infix {
+    let current = match tail {
+        Tail::AtPath(path, _) => Current::InInfix(Infix {
             binder: Some(path.name),
             operations: Stack::new(alloc),
-            spot: Spot::Begin,
+            tail: Tail::Begin,
         }),
-        spot => Current::InInfix(Infix {
+        tail => Current::InInfix(Infix {
             binder,
             operations,
-            spot,
+            tail,
         }),
     };
     State {
@@ -414,16 +414,16 @@ fn opened(
     chain: Infix,
     start: u32,
 ) -> Result<State, NoMemory>
-    ensures { IfOk result (λ now. now ≡ spec.opened chain.spot frames earlier chain start) }
+    ensures { IfOk result (λ now. now ≡ spec.opened chain.tail frames earlier chain start) }
 {
     let Infix {
         binder,
         operations,
-        spot,
+        tail,
     } = chain;
-    let (bracket, kids) = match spot {
-        Spot::AtPath(path, _) => (Bracket::Call(path.start, path.name), path.prefix),
-        _spot => (Bracket::Group(start), no_kids(alloc)),
+    let (bracket, kids) = match tail {
+        Tail::AtPath(path, _) => (Bracket::Call(path.start, path.name), path.prefix),
+        _tail => (Bracket::Group(start), no_kids(alloc)),
     };
     let mut frames = frames;
     frames.push(Frame {
@@ -448,15 +448,15 @@ fn closed_at(
     chain: Infix,
     end: u32,
 ) -> Result<State, NoMemory>
-    ensures { IfOk result (λ now. now ≡ spec.closed_at chain.spot frames earlier chain end) }
+    ensures { IfOk result (λ now. now ≡ spec.closed_at chain.tail frames earlier chain end) }
 {
-    match chain.spot {
-        Spot::Begin => emptied(alloc, frames, end),
-        spot => {
+    match chain.tail {
+        Tail::Begin => emptied(alloc, frames, end),
+        tail => {
             let chain = Infix {
                 binder: chain.binder,
                 operations: chain.operations,
-                spot,
+                tail,
             };
             let operand = infix_at(alloc, chain)?;
             closed(alloc, frames, with_earlier(alloc, earlier, operand)?, end)
@@ -465,16 +465,16 @@ fn closed_at(
 }
 
 fn dotted(frames: Stack<Frame>, earlier: Option<Earlier>, chain: Infix) -> State
-    ensures { result ≡ spec.dotted chain.spot frames earlier chain }
+    ensures { result ≡ spec.dotted chain.tail frames earlier chain }
 {
     let Infix {
         binder,
         operations,
-        spot,
+        tail,
     } = chain;
-    let spot = match spot {
-        Spot::AtPath(path, _) => Spot::AtDot(path),
-        spot => spot,
+    let tail = match tail {
+        Tail::AtPath(path, _) => Tail::AtDot(path),
+        tail => tail,
     };
     State {
         frames,
@@ -482,7 +482,7 @@ fn dotted(frames: Stack<Frame>, earlier: Option<Earlier>, chain: Infix) -> State
         current: Current::InInfix(Infix {
             binder,
             operations,
-            spot,
+            tail,
         }),
     }
 }
@@ -495,16 +495,16 @@ fn numbered_at(
     token: Token,
     word: &str,
 ) -> Result<State, NoMemory>
-    ensures { IfOk result (λ now. now ≡ spec.at_spot frames earlier chain (AtEnded (spec.numbered chain.spot (lexeme_with token word.now)))) }
+    ensures { IfOk result (λ now. now ≡ spec.at_tail frames earlier chain (AtEnded (spec.numbered chain.tail (lexeme_with token word.now)))) }
 {
-    let operand = numbered(alloc, chain.spot, token, word)?;
+    let operand = numbered(alloc, chain.tail, token, word)?;
     Ok(State {
         frames,
         earlier,
         current: Current::InInfix(Infix {
             binder: chain.binder,
             operations: chain.operations,
-            spot: Spot::AtEnded(operand),
+            tail: Tail::AtEnded(operand),
         }),
     })
 }
@@ -524,9 +524,9 @@ fn advance_infix(
         Symbol::Number => numbered_at(alloc, frames, earlier, chain, token, word),
         Symbol::Literal => {
             let operand = leaf(alloc, Text::new(alloc, word)?, token.span);
-            Ok(at_spot(frames, earlier, chain, Spot::AtEnded(operand)))
+            Ok(at_tail(frames, earlier, chain, Tail::AtEnded(operand)))
         }
-        Symbol::Underscore => Ok(at_spot(frames, earlier, chain, Spot::AtWild(token.span))),
+        Symbol::Underscore => Ok(at_tail(frames, earlier, chain, Tail::AtWild(token.span))),
         Symbol::Colon => type_from(alloc, frames, earlier, chain),
         Symbol::At => Ok(binder_from(alloc, frames, earlier, chain)),
         Symbol::OpenRound => opened(alloc, frames, earlier, chain, token.span.start),

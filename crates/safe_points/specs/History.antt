@@ -2,7 +2,7 @@
 -- the latest is first.
 use Rattle.std.specs.Prelude.{◌≡◌, ⊤, ℕ, Bool, true, false, ◌==◌, if◌then◌else◌, List, [], ◌∷◌, ◌++◌}
 use Rattle.std.specs.Option.{option_map_or}
-use Rattle.safe_points.specs.declared.entry.Entry.{Entry}
+use Rattle.safe_points.specs.declared.ticketed.Ticketed.{Ticketed}
 use Rattle.safe_points.specs.Stack.{has_ticket, is_on, top_of, removed, all_stale, refreshed, with_top_task}
 
 -- A call that changes a stack.
@@ -15,7 +15,7 @@ pub data Change (T : Type 0) : Type 0 where
 
 module _ {T : Type 0} where
   -- the stack after these calls
-  abbrev pub after : List (Change T) → List (Entry T)
+  abbrev pub after : List (Change T) → List (Ticketed T)
   after [] = []
   after (Push ticket task ∷ earlier) = after earlier ++ record { ticket = ticket; task = task; stale = false } ∷ []
   after (Work task ∷ earlier) = with_top_task (after earlier) task
@@ -30,7 +30,7 @@ module _ {T : Type 0} where
   AreAllowed (_ ∷ earlier) = AreAllowed earlier
 
   -- whether the task of this ticket is on top
-  abbrev pub is_top : List (Entry T) → ℕ → Bool
+  abbrev pub is_top : List (Ticketed T) → ℕ → Bool
   is_top stack ticket = option_map_or (has_ticket ticket) (top_of stack) false
 
   -- Whether `stale_all` came after the last push of this ticket, and after the last `refresh_top` with its task on top.

@@ -2,7 +2,7 @@
 use Rattle.std.specs.Prelude.{◌≡◌, ⊤, ℕ, Bool, true, false, not, ◌&&◌, ◌==◌, List, [], ◌∷◌, filter, find, map, Option, Some, None}
 use Rattle.std.specs.List.{list_any}
 use Rattle.std.specs.Option.{option_map}
-use Rattle.safe_points.specs.declared.entry.Entry.{Entry}
+use Rattle.safe_points.specs.declared.ticketed.Ticketed.{Ticketed}
 
 -- no two of these tickets are one
 abbrev pub AreDistinct : List ℕ → Type 0
@@ -12,62 +12,62 @@ AreDistinct (ticket ∷ above) = (list_any (λ other. other == ticket) above ≡
 module _ {T : Type 0} where
   -- ---- what is asked of a stack
 
-  abbrev pub ticket_of : Entry T → ℕ
-  ticket_of entry = entry.ticket
+  abbrev pub ticket_of : Ticketed T → ℕ
+  ticket_of ticketed = ticketed.ticket
 
-  abbrev pub tickets : List (Entry T) → List ℕ
+  abbrev pub tickets : List (Ticketed T) → List ℕ
   tickets stack = map ticket_of stack
 
-  abbrev pub has_ticket : ℕ → Entry T → Bool
-  has_ticket ticket entry = entry.ticket == ticket
+  abbrev pub has_ticket : ℕ → Ticketed T → Bool
+  has_ticket ticket ticketed = ticketed.ticket == ticket
 
   -- whether a task with this ticket is on the stack
-  abbrev pub is_on : List (Entry T) → ℕ → Bool
+  abbrev pub is_on : List (Ticketed T) → ℕ → Bool
   is_on stack ticket = list_any (has_ticket ticket) stack
 
-  -- the entry of the task on top
-  abbrev pub top_of : List (Entry T) → Option (Entry T)
+  -- the ticketed of the task on top
+  abbrev pub top_of : List (Ticketed T) → Option (Ticketed T)
   top_of [] = None
-  top_of (entry ∷ []) = Some entry
-  top_of (entry ∷ next ∷ above) = top_of (next ∷ above)
+  top_of (ticketed ∷ []) = Some ticketed
+  top_of (ticketed ∷ next ∷ above) = top_of (next ∷ above)
 
   -- the task of this ticket
-  abbrev pub task_of : List (Entry T) → ℕ → Option T
-  task_of stack ticket = option_map (λ entry. entry.task) (find (has_ticket ticket) stack)
+  abbrev pub task_of : List (Ticketed T) → ℕ → Option T
+  task_of stack ticket = option_map (λ ticketed. ticketed.task) (find (has_ticket ticket) stack)
 
   -- whether the task of this ticket is on the stack and stale
-  abbrev pub has_stale : List (Entry T) → ℕ → Bool
-  has_stale stack ticket = list_any (λ entry. has_ticket ticket entry && entry.stale) stack
+  abbrev pub has_stale : List (Ticketed T) → ℕ → Bool
+  has_stale stack ticket = list_any (λ ticketed. has_ticket ticket ticketed && ticketed.stale) stack
 
   -- ---- what becomes of it
 
   -- without the task of this ticket
-  abbrev pub removed : List (Entry T) → ℕ → List (Entry T)
-  removed stack ticket = filter (λ entry. not (has_ticket ticket entry)) stack
+  abbrev pub removed : List (Ticketed T) → ℕ → List (Ticketed T)
+  removed stack ticket = filter (λ ticketed. not (has_ticket ticket ticketed)) stack
 
-  abbrev pub marked : Entry T → Entry T
-  marked entry = record entry { stale = true }
+  abbrev pub marked : Ticketed T → Ticketed T
+  marked ticketed = record ticketed { stale = true }
 
   -- with every task stale
-  abbrev pub all_stale : List (Entry T) → List (Entry T)
+  abbrev pub all_stale : List (Ticketed T) → List (Ticketed T)
   all_stale stack = map marked stack
 
-  -- with the entry on top changed, where there is one
-  abbrev pub top_changed : (Entry T → Entry T) → List (Entry T) → List (Entry T)
+  -- with the ticketed on top changed, where there is one
+  abbrev pub top_changed : (Ticketed T → Ticketed T) → List (Ticketed T) → List (Ticketed T)
   top_changed change [] = []
-  top_changed change (entry ∷ []) = change entry ∷ []
-  top_changed change (entry ∷ next ∷ above) = entry ∷ top_changed change (next ∷ above)
+  top_changed change (ticketed ∷ []) = change ticketed ∷ []
+  top_changed change (ticketed ∷ next ∷ above) = ticketed ∷ top_changed change (next ∷ above)
 
-  abbrev pub unmarked : Entry T → Entry T
-  unmarked entry = record entry { stale = false }
+  abbrev pub unmarked : Ticketed T → Ticketed T
+  unmarked ticketed = record ticketed { stale = false }
 
   -- with the task on top not stale
-  abbrev pub refreshed : List (Entry T) → List (Entry T)
+  abbrev pub refreshed : List (Ticketed T) → List (Ticketed T)
   refreshed stack = top_changed unmarked stack
 
-  abbrev pub with_task : T → Entry T → Entry T
-  with_task task entry = record entry { task = task }
+  abbrev pub with_task : T → Ticketed T → Ticketed T
+  with_task task ticketed = record ticketed { task = task }
 
   -- with this as the task on top
-  abbrev pub with_top_task : List (Entry T) → T → List (Entry T)
+  abbrev pub with_top_task : List (Ticketed T) → T → List (Ticketed T)
   with_top_task stack task = top_changed (with_task task) stack

@@ -2,8 +2,8 @@ ghost use Rattle.std.specs.Prelude.{◌≡◌, ◌≢◌, [], ◌∷◌, ◌++�
 ghost use Rattle.std.specs.Option.{option_map};
 ghost use Rattle.std.specs.Borrow.{sem};
 
-use crate::Entry;
-use crate::entry::index_of;
+use crate::Ticketed;
+use crate::ticketed::index_of;
 use pc_terms::NoMemory;
 use std::alloc::Global;
 use std::marker::Model;
@@ -12,20 +12,20 @@ use std::marker::Model;
 /// as a list from bottom to top, in which no two tasks have one ticket.
 #[derive(Drop)]
 pub struct Stack<T> {
-    entries: Vec<Entry<T>>,
+    tasks: Vec<Ticketed<T>>,
 }
 
 impl<T> Model for Stack<T> {
     ghost use Rattle.std.specs.Prelude.{List};
-    ghost use Rattle.safe_points.specs.declared.entry.Entry.{Entry};
+    ghost use Rattle.safe_points.specs.declared.ticketed.Ticketed.{Ticketed};
 
-    ghost Value = { List (Entry T) };
+    ghost Value = { List (Ticketed T) };
 
     ghost use Rattle.safe_points.specs.Stack.{AreDistinct, tickets};
 
-    ghost view = { λ stack. stack.entries.items };
+    ghost view = { λ stack. stack.tasks.items };
 
-    ghost invariant = { λ stack. AreDistinct (tickets stack.entries.items) };
+    ghost invariant = { λ stack. AreDistinct (tickets stack.tasks.items) };
 }
 
 impl<T> Stack<T> {
@@ -37,7 +37,7 @@ impl<T> Stack<T> {
         ensures { IfOk result (λ stack. stack ≡ []) }
     {
         Ok(Stack {
-            entries: Vec::new(alloc),
+            tasks: Vec::new(alloc),
         })
     }
 
@@ -46,17 +46,17 @@ impl<T> Stack<T> {
         ensures ticket { result ≡ option_map ticket_of (top_of self.now) }
         ensures distinct { AreDistinct (tickets self.now) }
     {
-        self.entries.last().map(|entry| entry.ticket)
+        self.tasks.last().map(|ticketed| ticketed.ticket)
     }
 
     /// The task on top, to be worked on.
     pub fn top_task(&mut self) -> &mut T
         requires { self.old ≢ [] }
         ensures* writes_back { sem 𝓛 (LendsTopTask T.row self.entry result) }
-        ensures value { option_map (λ entry. entry.task) (top_of self.old) ≡ Some result.now }
+        ensures value { option_map (λ ticketed. ticketed.task) (top_of self.old) ≡ Some result.now }
     {
-        let last = self.entries.len() - 1;
-        &mut self.entries[last].task
+        let last = self.tasks.len() - 1;
+        &mut self.tasks[last].task
     }
 
     /// Takes a task off the stack, wherever it stands. The others stay in their order.
@@ -64,12 +64,12 @@ impl<T> Stack<T> {
         ensures task { result ≡ task_of self.old ticket }
         ensures rest { self.new ≡ removed self.old ticket }
     {
-        let index = index_of(self.entries.as_slice(), ticket)?;
-        let Entry {
+        let index = index_of(self.tasks.as_slice(), ticket)?;
+        let Ticketed {
             task,
             ticket: _,
             stale: _,
-        } = self.entries.remove(index);
+        } = self.tasks.remove(index);
         Some(task)
     }
 
@@ -77,8 +77,8 @@ impl<T> Stack<T> {
     pub fn stale_all(&mut self)
         ensures { self.new ≡ all_stale self.old }
     {
-        for entry in self.entries.iter_mut() {
-            entry.stale = true;
+        for ticketed in self.tasks.iter_mut() {
+            ticketed.stale = true;
         }
     }
 
@@ -86,8 +86,8 @@ impl<T> Stack<T> {
     pub fn is_stale(&self, ticket: u64) -> bool
         ensures { result ≡ has_stale self.now ticket }
     {
-        match index_of(self.entries.as_slice(), ticket) {
-            Some(index) => self.entries[index].stale,
+        match index_of(self.tasks.as_slice(), ticket) {
+            Some(index) => self.tasks[index].stale,
             None => false,
         }
     }
@@ -97,8 +97,8 @@ impl<T> Stack<T> {
         requires { self.old ≢ [] }
         ensures { self.new ≡ refreshed self.old }
     {
-        let last = self.entries.len() - 1;
-        self.entries[last].stale = false;
+        let last = self.tasks.len() - 1;
+        self.tasks[last].stale = false;
     }
 }
 
@@ -111,7 +111,7 @@ impl<T: Drop> Stack<T> {
         ensures ok { OnOk result (self.new ≡ self.old ++ record { ticket = ticket; task = task; stale = false } ∷ []) }
         ensures err { OnErr result (self.new ≡ self.old) }
     {
-        self.entries.push(Entry {
+        self.tasks.push(Ticketed {
             ticket,
             task,
             stale: false,

@@ -8,6 +8,7 @@ use Rattle.scan_tokens.specs.declared.roles.Bracket.{Bracket}
 use Rattle.scan_tokens.specs.declared.roles.Role.{Role}
 use Rattle.scan_tokens.specs.declared.roles.Role.TheVariants.{Opens, Closes, Case}
 use Rattle.scan_tokens.specs.Newlines.{role_of, same_bracket, is_template}
+use Rattle.scan_tokens.specs.Words.{double_arrow}
 use Rattle.scan_tokens.specs.declared.tokens.Newline.{Newline}
 use Rattle.scan_tokens.specs.declared.tokens.Newline.TheVariants.{No}
 use Rattle.source_grammar.specs.Lexemes.{Lexeme}
@@ -112,3 +113,15 @@ begins_case (x ∷ xs) = is_case_role (role x) && not (begins_template xs)
 abbrev pub has_no_case : List Opened → List Lexeme → Bool
 has_no_case opened [] = true
 has_no_case opened (x ∷ xs) = (not (list_is_empty opened) || not (begins_case (x ∷ xs))) && has_no_case (open_after x opened) xs
+
+abbrev pub is_sign_kind : TokenKind → Bool
+is_sign_kind kind.Sign = true
+is_sign_kind _ = false
+
+abbrev pub is_arrow : Lexeme → Bool
+is_arrow x = is_sign_kind x.kind && (bytes_eq x.word double_arrow || bytes_eq x.word (codes "=>"))
+
+-- outside brackets no `=>` stands
+abbrev pub has_no_arrow : List Opened → List Lexeme → Bool
+has_no_arrow opened [] = true
+has_no_arrow opened (x ∷ xs) = (not (list_is_empty opened) || not (is_arrow x)) && has_no_arrow (open_after x opened) xs

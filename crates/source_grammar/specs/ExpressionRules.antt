@@ -4,10 +4,10 @@ use Rattle.std.specs.List.{list_any}
 use Rattle.std.specs.Str.{bytes_eq}
 use Rattle.scan_tokens.specs.declared.tokens.TokenKind.{TokenKind}
 use Rattle.scan_tokens.specs.declared.tokens.TokenKind.TheVariants as token
-use Rattle.source_grammar.specs.Brackets.{has_newline, has_no_case, is_case_role, is_piece, role}
+use Rattle.source_grammar.specs.Brackets.{has_newline, has_no_arrow, has_no_case, is_case_role, is_piece, role}
 use Rattle.source_grammar.specs.Comprehensions.{is_generator_pat}
 use Rattle.source_grammar.specs.Definitions.{ParList, items, OnlyLastRepeats, ProperImport, ProperMods}
-use Rattle.source_grammar.specs.Expressions.{ListKind, WithinExpr, OfProcedure, LamHead, PrefixSign, Minus, Sep, Expr, Lambda, IfThen, IfElse, WhileDo, DoThenWhile, TryAlone, TryCatch, TryFinally, TryCatchFinally, ForRound, ForCurly, ThrowOf, ReturnAlone, ReturnOf, AssignName, AssignSelect, AssignApply, InfixExpr, TypedExpr, MatchExpr, Enums, LastGen, MoreGens, Gen, GenOf, Guards, NoGuards, MoreGuards, Infix, LastPrefix, MorePrefixes, Prefix, Unsigned, Signed, Prim, MinusPrim, NamePrim, ExprInParentheses, PairPrim, TriplePrim, BlockPrim, CasesPrim, NewOf, NewWith, SelectPrim, SelectHole, TypeApplyPrim, ApplyPrim, EtaPrim, Args, NoArgs, ExprArgs, BlockArg, CasesArg, ExprList, LastExpr, MoreExprs, Block, Statements, LambdaBlock, BStats, LastBStat, MoreBStats, BStat, ImportBStat, DefBStat, ExprBStat, EmptyBStat, BrokenBStat, Cases, LastCase, MoreCases, Case, CaseOf, GuardedCase, Def, ValueDef, MethodDef, ProcedureDef, AliasDef}
+use Rattle.source_grammar.specs.Expressions.{ListKind, WithinExpr, OfProcedure, LamHead, PrefixSign, Minus, Sep, Expr, Headed, DoThenWhile, TryCatch, ReturnAlone, InfixExpr, TypedExpr, MatchExpr, Heading, IfThen, IfElse, WhileDo, TryAlone, TryFinally, TryCatchFinally, ForRound, ForCurly, ReturnOf, AssignSelect, AssignApply, Enums, LastGen, MoreGens, Gen, GenOf, Guards, NoGuards, MoreGuards, Infix, LastPrefix, MorePrefixes, Prefix, Unsigned, Signed, Prim, MinusPrim, NamePrim, ExprInParentheses, PairPrim, TriplePrim, BlockPrim, CasesPrim, NewOf, NewWith, SelectPrim, SelectHole, TypeApplyPrim, ApplyPrim, EtaPrim, Args, NoArgs, ExprArgs, BlockArg, CasesArg, ExprList, LastExpr, MoreExprs, Block, Statements, LambdaBlock, BStats, LastBStat, MoreBStats, BStat, ImportBStat, DefBStat, ExprBStat, EmptyBStat, BrokenBStat, Cases, LastCase, MoreCases, Case, CaseOf, GuardedCase, Def, ValueDef, MethodDef, ProcedureDef, AliasDef}
 use Rattle.source_grammar.specs.ExpressionTokens.{head_tokens, sep_tokens, expr_tokens, enums_tokens, gen_tokens, infix_tokens, prim_tokens, args_tokens, bstats_tokens, bstat_tokens, def_tokens}
 use Rattle.source_grammar.specs.ExpressionTrees.{bstat_built}
 use Rattle.source_grammar.specs.Lexemes.{Place, Lexeme, Arrow, arrow_token, Id}
@@ -15,7 +15,7 @@ use Rattle.source_grammar.specs.Newlines.{IsJoined, IsNear, IsJoinedPart, IsNear
 use Rattle.source_grammar.specs.Patterns.{ProperPat}
 use Rattle.source_grammar.specs.Placeholders.{Built, free_of}
 use Rattle.source_grammar.specs.Precedence.{are_of_one_side}
-use Rattle.source_grammar.specs.Types.{WrittenType, Simple, type_tokens}
+use Rattle.source_grammar.specs.Types.{WrittenType, type_tokens}
 
 -- ---- what may still follow an expression at its right end
 
@@ -29,24 +29,16 @@ pub data OpenHead : Type 0 where
   -- a `return` without operand
   ReturnOpen : OpenHead
 
+abbrev pub opened : Heading → List OpenHead
+opened (IfThen word opening test closing) = IfOpen ∷ []
+opened (TryAlone word) = TryOpen ∷ []
+opened _ = []
+
 -- the open heads of an expression that end where it ends, the outermost first
 abbrev pub open_heads : Expr → List OpenHead
-open_heads (IfThen word opening test closing body) = IfOpen ∷ open_heads body
-open_heads (TryAlone word body) = TryOpen ∷ open_heads body
+open_heads (Headed heading body) = opened heading ++ open_heads body
 open_heads (TryCatch word body catch opening cases closing) = CatchOpen ∷ []
 open_heads (ReturnAlone word) = ReturnOpen ∷ []
-open_heads (Lambda head arrow body) = open_heads body
-open_heads (IfElse word opening test closing body semi other rest) = open_heads rest
-open_heads (WhileDo word opening test closing body) = open_heads body
-open_heads (TryFinally word body last end) = open_heads end
-open_heads (TryCatchFinally word body catch opening cases closing last end) = open_heads end
-open_heads (ForRound word opening enums closing yield body) = open_heads body
-open_heads (ForCurly word opening enums closing yield body) = open_heads body
-open_heads (ThrowOf word operand) = open_heads operand
-open_heads (ReturnOf word operand) = open_heads operand
-open_heads (AssignName id sign right) = open_heads right
-open_heads (AssignSelect prim point id sign right) = open_heads right
-open_heads (AssignApply prim args sign right) = open_heads right
 open_heads _ = []
 
 abbrev pub takes_else : Expr → Bool
@@ -96,21 +88,6 @@ abbrev pub takes_args : Prim → Bool
 takes_args (NewOf word type) = true
 takes_args _ = false
 
-abbrev pub is_function_type : WrittenType → Bool
-is_function_type (Simple simple) = false
-is_function_type _ = true
-
--- a `new` of a function type stands in it, outside brackets
-abbrev pub has_new_function : Prim → Bool
-has_new_function (NewOf word type) = is_function_type type
-has_new_function (NewWith word type args) = is_function_type type
-has_new_function (SelectPrim prim point id) = has_new_function prim
-has_new_function (SelectHole prim point) = has_new_function prim
-has_new_function (TypeApplyPrim prim opening types closing) = has_new_function prim
-has_new_function (ApplyPrim prim args) = has_new_function prim
-has_new_function (EtaPrim prim place) = has_new_function prim
-has_new_function _ = false
-
 -- ---- prefix operators
 
 abbrev pub is_prefix_id : Id → Bool
@@ -133,10 +110,6 @@ is_hole _ = false
 abbrev pub prim_of : Prefix → Prim
 prim_of (Unsigned prim) = prim
 prim_of (Signed sign prim) = prim
-
-abbrev pub any_new_function : Infix → Bool
-any_new_function (LastPrefix prefix) = has_new_function (prim_of prefix)
-any_new_function (MorePrefixes prefix operator rest) = has_new_function (prim_of prefix) || any_new_function rest
 
 -- an identifier behind it is an operator: it is the name of no Hole, and the operand of no prefix operator
 abbrev pub is_before_operator : Prefix → Bool
@@ -204,30 +177,30 @@ Rule = ListKind → Bool → List Lexeme → List Lexeme → Type 0
 module _ (rule : Rule) where
   abbrev mutual
     pub ProperExpr : Expr → Type 0
-    ProperExpr (Lambda head arrow body) = ProperExpr body
-    ProperExpr (IfThen word opening test closing body) = ProperExpr test × ProperExpr body
-    ProperExpr (IfElse word opening test closing body semi other rest) =
-        ProperExpr test × ProperExpr body × (takes_else body ≡ false) × ProperExpr rest
-    ProperExpr (WhileDo word opening test closing body) = ProperExpr test × ProperExpr body
+    ProperExpr (Headed heading body) = ProperHeading heading body × ProperExpr body
     ProperExpr (DoThenWhile word body sep until opening test closing) =
         ProperExpr body × ((not (takes_operand body) || is_apart sep until) ≡ true) × ProperExpr test
-    ProperExpr (TryAlone word body) = ProperExpr body
     ProperExpr (TryCatch word body catch opening cases closing) = ProperExpr body × (takes_catch body ≡ false) × ProperCases cases
-    ProperExpr (TryFinally word body last end) = ProperExpr body × (takes_finally body ≡ false) × ProperExpr end
-    ProperExpr (TryCatchFinally word body catch opening cases closing last end) =
-        ProperExpr body × (takes_catch body ≡ false) × ProperCases cases × ProperExpr end
-    ProperExpr (ForRound word opening enums closing yield body) = ProperEnums enums × ProperExpr body
-    ProperExpr (ForCurly word opening enums closing yield body) = ProperEnums enums × ProperExpr body
-    ProperExpr (ThrowOf word operand) = ProperExpr operand
     ProperExpr (ReturnAlone word) = Unit {0}
-    ProperExpr (ReturnOf word operand) = IsJoinedPart (expr_tokens operand) × ProperExpr operand
-    ProperExpr (AssignName id sign right) = ProperExpr right
-    ProperExpr (AssignSelect prim point id sign right) = ProperPrim prim × (extends_type prim ≡ false) × ProperExpr right
-    ProperExpr (AssignApply prim args sign right) = ProperPrim prim × (is_called prim args ≡ true) × ProperArgs args × ProperExpr right
     ProperExpr (InfixExpr chain) = ProperInfix chain × (are_of_one_side (infix_operators chain) ≡ true)
     ProperExpr (TypedExpr chain point type) = ProperInfix chain × (are_of_one_side (infix_operators chain) ≡ true)
     ProperExpr (MatchExpr chain word opening cases closing) =
         ProperInfix chain × (are_of_one_side (infix_operators chain) ≡ true) × ProperCases cases
+
+    -- before this expression
+    pub ProperHeading : Heading → Expr → Type 0
+    ProperHeading (IfThen word opening test closing) body = ProperExpr test
+    ProperHeading (IfElse word opening test closing first semi other) body = ProperExpr test × ProperExpr first × (takes_else first ≡ false)
+    ProperHeading (WhileDo word opening test closing) body = ProperExpr test
+    ProperHeading (TryFinally word tried last) body = ProperExpr tried × (takes_finally tried ≡ false)
+    ProperHeading (TryCatchFinally word tried catch opening cases closing last) body =
+        ProperExpr tried × (takes_catch tried ≡ false) × ProperCases cases
+    ProperHeading (ForRound word opening enums closing yield) body = ProperEnums enums
+    ProperHeading (ForCurly word opening enums closing yield) body = ProperEnums enums
+    ProperHeading (ReturnOf word) body = IsJoinedPart (expr_tokens body)
+    ProperHeading (AssignSelect prim point id sign) body = ProperPrim prim × (extends_type prim ≡ false)
+    ProperHeading (AssignApply prim args sign) body = ProperPrim prim × (is_called prim args ≡ true) × ProperArgs args
+    ProperHeading _ body = Unit {0}
 
     pub ProperEnums : Enums → Type 0
     ProperEnums (LastGen gen) = ProperGen gen
@@ -306,7 +279,7 @@ module _ (rule : Rule) where
     ProperCase (CaseOf word pat arrow stats) =
         ProperPat pat × (has_no_case [] (bstats_tokens stats) ≡ true) × ProperBStats WithinExpr stats
     ProperCase (GuardedCase word pat guard test arrow stats) =
-        ProperPat pat × ProperInfix test × (are_of_one_side (infix_operators test) ≡ true) × (any_new_function test ≡ false)
+        ProperPat pat × ProperInfix test × (are_of_one_side (infix_operators test) ≡ true) × (has_no_arrow [] (infix_tokens test) ≡ true)
         × (has_no_case [] (bstats_tokens stats) ≡ true) × ProperBStats WithinExpr stats
 
     pub ProperDef : ListKind → Def → Type 0

@@ -2,7 +2,7 @@
 use Rattle.std.specs.Prelude.{List, [], ◌∷◌, ◌++◌, Option, Some, None, codes}
 use Rattle.source_grammar.specs.Lexemes.{Place, Lexeme, word_at, plain_at, open_round, close_round, open_square, close_square, open_curly, close_curly, comma, dot, semicolon, colon, underscore, equals, minus, arrow_token, back_arrow_token, id_token, literal_token, number_token}
 use Rattle.source_grammar.specs.Definitions.{type_part_tokens, tparams_tokens, par_lists_tokens, mods_tokens, import_tokens, listed_tokens}
-use Rattle.source_grammar.specs.Expressions.{LPar, NamedLPar, WildLPar, LamHead, NamedHead, WildHead, LParHead, PrefixSign, Plus, Minus, Bang, Tilde, ValueWord, Val, Var, Sep, Expr, Lambda, IfThen, IfElse, WhileDo, DoThenWhile, TryAlone, TryCatch, TryFinally, TryCatchFinally, ForRound, ForCurly, ThrowOf, ReturnAlone, ReturnOf, AssignName, AssignSelect, AssignApply, InfixExpr, TypedExpr, MatchExpr, Enums, LastGen, MoreGens, Gen, GenOf, Guards, NoGuards, MoreGuards, Infix, LastPrefix, MorePrefixes, Prefix, Unsigned, Signed, Prim, LiteralPrim, MinusPrim, Placeholder, ThisPrim, SuperPrim, NamePrim, UnitPrim, ExprInParentheses, PairPrim, TriplePrim, BlockPrim, CasesPrim, NewOf, NewWith, SelectPrim, SelectHole, TypeApplyPrim, ApplyPrim, EtaPrim, Args, NoArgs, ExprArgs, BlockArg, CasesArg, ExprList, LastExpr, MoreExprs, Block, Statements, LambdaBlock, BStats, LastBStat, MoreBStats, BStat, ImportBStat, DefBStat, ExprBStat, EmptyBStat, BrokenBStat, Cases, LastCase, MoreCases, Case, CaseOf, GuardedCase, Def, ValueDef, MethodDef, ProcedureDef, AliasDef}
+use Rattle.source_grammar.specs.Expressions.{LPar, NamedLPar, WildLPar, LamHead, NamedHead, WildHead, LParHead, PrefixSign, Plus, Minus, Bang, Tilde, ValueWord, Val, Var, Sep, Expr, Headed, DoThenWhile, TryCatch, ReturnAlone, InfixExpr, TypedExpr, MatchExpr, Heading, Lambda, IfThen, IfElse, WhileDo, TryAlone, TryFinally, TryCatchFinally, ForRound, ForCurly, ThrowOf, ReturnOf, AssignName, AssignSelect, AssignApply, Enums, LastGen, MoreGens, Gen, GenOf, Guards, NoGuards, MoreGuards, Infix, LastPrefix, MorePrefixes, Prefix, Unsigned, Signed, Prim, LiteralPrim, MinusPrim, Placeholder, ThisPrim, SuperPrim, NamePrim, UnitPrim, ExprInParentheses, PairPrim, TriplePrim, BlockPrim, CasesPrim, NewOf, NewWith, SelectPrim, SelectHole, TypeApplyPrim, ApplyPrim, EtaPrim, Args, NoArgs, ExprArgs, BlockArg, CasesArg, ExprList, LastExpr, MoreExprs, Block, Statements, LambdaBlock, BStats, LastBStat, MoreBStats, BStat, ImportBStat, DefBStat, ExprBStat, EmptyBStat, BrokenBStat, Cases, LastCase, MoreCases, Case, CaseOf, GuardedCase, Def, ValueDef, MethodDef, ProcedureDef, AliasDef}
 use Rattle.source_grammar.specs.Patterns.{pat_tokens}
 use Rattle.source_grammar.specs.Types.{type_tokens, type_list_tokens}
 
@@ -39,39 +39,41 @@ yield_tokens (Some place) = word_at (codes "yield") place ∷ []
 
 abbrev mutual
   pub expr_tokens : Expr → List Lexeme
-  expr_tokens (Lambda head arrow body) = head_tokens head ++ arrow_token arrow ∷ expr_tokens body
-  expr_tokens (IfThen word opening test closing body) =
-      word_at (codes "if") word ∷ open_round opening ∷ (expr_tokens test ++ close_round closing ∷ expr_tokens body)
-  expr_tokens (IfElse word opening test closing body semi other rest) =
-      word_at (codes "if") word ∷ open_round opening ∷ (expr_tokens test ++ close_round closing ∷ (expr_tokens body
-      ++ optional_semicolon semi ++ word_at (codes "else") other ∷ expr_tokens rest))
-  expr_tokens (WhileDo word opening test closing body) =
-      word_at (codes "while") word ∷ open_round opening ∷ (expr_tokens test ++ close_round closing ∷ expr_tokens body)
+  expr_tokens (Headed heading body) = heading_tokens heading ++ expr_tokens body
   expr_tokens (DoThenWhile word body sep until opening test closing) =
       word_at (codes "do") word ∷ (expr_tokens body ++ sep_tokens sep
       ++ word_at (codes "while") until ∷ open_round opening ∷ (expr_tokens test ++ close_round closing ∷ []))
-  expr_tokens (TryAlone word body) = word_at (codes "try") word ∷ expr_tokens body
   expr_tokens (TryCatch word body catch opening cases closing) =
       word_at (codes "try") word ∷ (expr_tokens body ++ word_at (codes "catch") catch ∷ open_curly opening ∷ (cases_tokens cases ++ close_curly closing ∷ []))
-  expr_tokens (TryFinally word body last end) =
-      word_at (codes "try") word ∷ (expr_tokens body ++ word_at (codes "finally") last ∷ expr_tokens end)
-  expr_tokens (TryCatchFinally word body catch opening cases closing last end) =
-      word_at (codes "try") word ∷ (expr_tokens body ++ word_at (codes "catch") catch ∷ open_curly opening ∷ (cases_tokens cases
-      ++ close_curly closing ∷ word_at (codes "finally") last ∷ expr_tokens end))
-  expr_tokens (ForRound word opening enums closing yield body) =
-      word_at (codes "for") word ∷ open_round opening ∷ (enums_tokens enums ++ close_round closing ∷ (yield_tokens yield ++ expr_tokens body))
-  expr_tokens (ForCurly word opening enums closing yield body) =
-      word_at (codes "for") word ∷ open_curly opening ∷ (enums_tokens enums ++ close_curly closing ∷ (yield_tokens yield ++ expr_tokens body))
-  expr_tokens (ThrowOf word operand) = word_at (codes "throw") word ∷ expr_tokens operand
   expr_tokens (ReturnAlone word) = word_at (codes "return") word ∷ []
-  expr_tokens (ReturnOf word operand) = word_at (codes "return") word ∷ expr_tokens operand
-  expr_tokens (AssignName id sign right) = id_token id ∷ equals sign ∷ expr_tokens right
-  expr_tokens (AssignSelect prim point id sign right) = prim_tokens prim ++ dot point ∷ id_token id ∷ equals sign ∷ expr_tokens right
-  expr_tokens (AssignApply prim args sign right) = prim_tokens prim ++ args_tokens args ++ equals sign ∷ expr_tokens right
   expr_tokens (InfixExpr chain) = infix_tokens chain
   expr_tokens (TypedExpr chain point type) = infix_tokens chain ++ colon point ∷ type_tokens type
   expr_tokens (MatchExpr chain word opening cases closing) =
       infix_tokens chain ++ word_at (codes "match") word ∷ open_curly opening ∷ (cases_tokens cases ++ close_curly closing ∷ [])
+
+  pub heading_tokens : Heading → List Lexeme
+  heading_tokens (Lambda head arrow) = head_tokens head ++ arrow_token arrow ∷ []
+  heading_tokens (IfThen word opening test closing) =
+      word_at (codes "if") word ∷ open_round opening ∷ (expr_tokens test ++ close_round closing ∷ [])
+  heading_tokens (IfElse word opening test closing body semi other) =
+      word_at (codes "if") word ∷ open_round opening ∷ (expr_tokens test ++ close_round closing ∷ (expr_tokens body
+      ++ optional_semicolon semi ++ word_at (codes "else") other ∷ []))
+  heading_tokens (WhileDo word opening test closing) =
+      word_at (codes "while") word ∷ open_round opening ∷ (expr_tokens test ++ close_round closing ∷ [])
+  heading_tokens (TryAlone word) = word_at (codes "try") word ∷ []
+  heading_tokens (TryFinally word body last) = word_at (codes "try") word ∷ (expr_tokens body ++ word_at (codes "finally") last ∷ [])
+  heading_tokens (TryCatchFinally word body catch opening cases closing last) =
+      word_at (codes "try") word ∷ (expr_tokens body ++ word_at (codes "catch") catch ∷ open_curly opening ∷ (cases_tokens cases
+      ++ close_curly closing ∷ word_at (codes "finally") last ∷ []))
+  heading_tokens (ForRound word opening enums closing yield) =
+      word_at (codes "for") word ∷ open_round opening ∷ (enums_tokens enums ++ close_round closing ∷ yield_tokens yield)
+  heading_tokens (ForCurly word opening enums closing yield) =
+      word_at (codes "for") word ∷ open_curly opening ∷ (enums_tokens enums ++ close_curly closing ∷ yield_tokens yield)
+  heading_tokens (ThrowOf word) = word_at (codes "throw") word ∷ []
+  heading_tokens (ReturnOf word) = word_at (codes "return") word ∷ []
+  heading_tokens (AssignName id sign) = id_token id ∷ equals sign ∷ []
+  heading_tokens (AssignSelect prim point id sign) = prim_tokens prim ++ dot point ∷ id_token id ∷ equals sign ∷ []
+  heading_tokens (AssignApply prim args sign) = prim_tokens prim ++ args_tokens args ++ equals sign ∷ []
 
   pub enums_tokens : Enums → List Lexeme
   enums_tokens (LastGen gen) = gen_tokens gen

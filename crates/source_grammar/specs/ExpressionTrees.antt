@@ -10,7 +10,7 @@ use Rattle.positioned_trees.specs.declared.trees.Tree.{Tree}
 use Rattle.source_grammar.specs.Comprehensions.{Generator, comprehension}
 use Rattle.source_grammar.specs.Definitions.{Mods, TypePart, NoType, TParams, ParList, items}
 use Rattle.source_grammar.specs.DefinitionTrees.{has, is_lazy, member_modifiers, type_part_trees, has_type, par_lists_trees, par_counts, tparams_trees, import_tree}
-use Rattle.source_grammar.specs.Expressions.{LPar, NamedLPar, WildLPar, LamHead, NamedHead, WildHead, LParHead, PrefixSign, ValueWord, Val, Var, Expr, Lambda, IfThen, IfElse, WhileDo, DoThenWhile, TryAlone, TryCatch, TryFinally, TryCatchFinally, ForRound, ForCurly, ThrowOf, ReturnAlone, ReturnOf, AssignName, AssignSelect, AssignApply, InfixExpr, TypedExpr, MatchExpr, Enums, LastGen, MoreGens, Gen, GenOf, Guards, NoGuards, MoreGuards, Infix, LastPrefix, MorePrefixes, Prefix, Unsigned, Signed, Prim, LiteralPrim, MinusPrim, Placeholder, ThisPrim, SuperPrim, NamePrim, UnitPrim, ExprInParentheses, PairPrim, TriplePrim, BlockPrim, CasesPrim, NewOf, NewWith, SelectPrim, SelectHole, TypeApplyPrim, ApplyPrim, EtaPrim, Args, NoArgs, ExprArgs, BlockArg, CasesArg, ExprList, LastExpr, MoreExprs, Block, Statements, LambdaBlock, BStats, LastBStat, MoreBStats, BStat, ImportBStat, DefBStat, ExprBStat, EmptyBStat, BrokenBStat, Cases, LastCase, MoreCases, Case, CaseOf, GuardedCase, Def, ValueDef, MethodDef, ProcedureDef, AliasDef}
+use Rattle.source_grammar.specs.Expressions.{LPar, NamedLPar, WildLPar, LamHead, NamedHead, WildHead, LParHead, PrefixSign, ValueWord, Val, Var, Expr, Headed, DoThenWhile, TryCatch, ReturnAlone, InfixExpr, TypedExpr, MatchExpr, Heading, Lambda, IfThen, IfElse, WhileDo, TryAlone, TryFinally, TryCatchFinally, ForRound, ForCurly, ThrowOf, ReturnOf, AssignName, AssignSelect, AssignApply, Enums, LastGen, MoreGens, Gen, GenOf, Guards, NoGuards, MoreGuards, Infix, LastPrefix, MorePrefixes, Prefix, Unsigned, Signed, Prim, LiteralPrim, MinusPrim, Placeholder, ThisPrim, SuperPrim, NamePrim, UnitPrim, ExprInParentheses, PairPrim, TriplePrim, BlockPrim, CasesPrim, NewOf, NewWith, SelectPrim, SelectHole, TypeApplyPrim, ApplyPrim, EtaPrim, Args, NoArgs, ExprArgs, BlockArg, CasesArg, ExprList, LastExpr, MoreExprs, Block, Statements, LambdaBlock, BStats, LastBStat, MoreBStats, BStat, ImportBStat, DefBStat, ExprBStat, EmptyBStat, BrokenBStat, Cases, LastCase, MoreCases, Case, CaseOf, GuardedCase, Def, ValueDef, MethodDef, ProcedureDef, AliasDef}
 use Rattle.source_grammar.specs.ExpressionTokens.{lpar_tokens, sign_token, expr_tokens, prefix_tokens, prim_tokens, bstat_tokens, case_tokens, def_tokens}
 use Rattle.source_grammar.specs.Lexemes.{Place, Lexeme, Id, literal_text, literal_place}
 use Rattle.source_grammar.specs.Patterns.{pat_tree}
@@ -176,53 +176,14 @@ for_built word tokens (gen ∷ gens) body = comprehension (yields word) (span_of
 
 abbrev mutual
   pub expr_built : Expr → Built
-  expr_built (Lambda head arrow body) =
-      bind (Lambda head arrow body) (function_over (span_of (expr_tokens (Lambda head arrow body))) head (expr_built body))
-  expr_built (IfThen word opening test closing body) =
-      bind (IfThen word opening test closing body)
-      (node kind.If (span_of (expr_tokens (IfThen word opening test closing body))) (expr_built test ∷ expr_built body ∷ []))
-  expr_built (IfElse word opening test closing body semi other rest) =
-      bind (IfElse word opening test closing body semi other rest)
-      (node kind.If (span_of (expr_tokens (IfElse word opening test closing body semi other rest)))
-      (expr_built test ∷ expr_built body ∷ expr_built rest ∷ []))
-  expr_built (WhileDo word opening test closing body) =
-      bind (WhileDo word opening test closing body)
-      (node kind.While (span_of (expr_tokens (WhileDo word opening test closing body))) (expr_built test ∷ expr_built body ∷ []))
+  expr_built (Headed heading body) = bind (Headed heading body) (heading_built heading (expr_tokens (Headed heading body)) (expr_built body))
   expr_built (DoThenWhile word body sep until opening test closing) =
       bind (DoThenWhile word body sep until opening test closing)
       (node kind.DoWhile (span_of (expr_tokens (DoThenWhile word body sep until opening test closing))) (expr_built body ∷ expr_built test ∷ []))
-  expr_built (TryAlone word body) =
-      bind (TryAlone word body) (node kind.Try (span_of (expr_tokens (TryAlone word body))) (expr_built body ∷ []))
   expr_built (TryCatch word body catch opening cases closing) =
       bind (TryCatch word body catch opening cases closing)
       (node kind.Try (span_of (expr_tokens (TryCatch word body catch opening cases closing))) (expr_built body ∷ cases_built cases))
-  expr_built (TryFinally word body last end) =
-      bind (TryFinally word body last end)
-      (node kind.Try (span_of (expr_tokens (TryFinally word body last end))) (expr_built body ∷ expr_built end ∷ []))
-  expr_built (TryCatchFinally word body catch opening cases closing last end) =
-      bind (TryCatchFinally word body catch opening cases closing last end)
-      (node kind.Try (span_of (expr_tokens (TryCatchFinally word body catch opening cases closing last end)))
-      (expr_built body ∷ (cases_built cases ++ expr_built end ∷ [])))
-  expr_built (ForRound word opening enums closing yield body) =
-      bind (ForRound word opening enums closing yield body)
-      (for_built yield (expr_tokens (ForRound word opening enums closing yield body)) (enums_built enums) (expr_built body))
-  expr_built (ForCurly word opening enums closing yield body) =
-      bind (ForCurly word opening enums closing yield body)
-      (for_built yield (expr_tokens (ForCurly word opening enums closing yield body)) (enums_built enums) (expr_built body))
-  expr_built (ThrowOf word operand) =
-      bind (ThrowOf word operand) (node kind.Throw (span_of (expr_tokens (ThrowOf word operand))) (expr_built operand ∷ []))
   expr_built (ReturnAlone word) = node kind.Return word.span []
-  expr_built (ReturnOf word operand) =
-      bind (ReturnOf word operand) (node kind.Return (span_of (expr_tokens (ReturnOf word operand))) (expr_built operand ∷ []))
-  expr_built (AssignName id sign right) =
-      bind (AssignName id sign right) (node kind.Assign (span_of (expr_tokens (AssignName id sign right))) (ident id ∷ expr_built right ∷ []))
-  expr_built (AssignSelect prim point id sign right) =
-      bind (AssignSelect prim point id sign right)
-      (node kind.Assign (span_of (expr_tokens (AssignSelect prim point id sign right)))
-      (selected id (prim_tokens (SelectPrim prim point id)) (prim_built prim) ∷ expr_built right ∷ []))
-  expr_built (AssignApply prim args sign right) =
-      bind (AssignApply prim args sign right)
-      (updated (expr_tokens (AssignApply prim args sign right)) (prim_built prim) (args_built args) (expr_built right))
   expr_built (InfixExpr chain) = bind (InfixExpr chain) (joined_built (infix_chain chain))
   expr_built (TypedExpr chain point type) =
       bind (TypedExpr chain point type)
@@ -230,6 +191,25 @@ abbrev mutual
   expr_built (MatchExpr chain word opening cases closing) =
       bind (MatchExpr chain word opening cases closing)
       (node kind.Match (span_of (expr_tokens (MatchExpr chain word opening cases closing))) (joined_built (infix_chain chain) ∷ cases_built cases))
+
+  -- of the tokens of the whole, and what the expression at its end is
+  pub heading_built : Heading → List Lexeme → Built → Built
+  heading_built (Lambda head arrow) xs body = function_over (span_of xs) head body
+  heading_built (IfThen word opening test closing) xs body = node kind.If (span_of xs) (expr_built test ∷ body ∷ [])
+  heading_built (IfElse word opening test closing first semi other) xs body = node kind.If (span_of xs) (expr_built test ∷ expr_built first ∷ body ∷ [])
+  heading_built (WhileDo word opening test closing) xs body = node kind.While (span_of xs) (expr_built test ∷ body ∷ [])
+  heading_built (TryAlone word) xs body = node kind.Try (span_of xs) (body ∷ [])
+  heading_built (TryFinally word tried last) xs body = node kind.Try (span_of xs) (expr_built tried ∷ body ∷ [])
+  heading_built (TryCatchFinally word tried catch opening cases closing last) xs body =
+      node kind.Try (span_of xs) (expr_built tried ∷ (cases_built cases ++ body ∷ []))
+  heading_built (ForRound word opening enums closing yield) xs body = for_built yield xs (enums_built enums) body
+  heading_built (ForCurly word opening enums closing yield) xs body = for_built yield xs (enums_built enums) body
+  heading_built (ThrowOf word) xs body = node kind.Throw (span_of xs) (body ∷ [])
+  heading_built (ReturnOf word) xs body = node kind.Return (span_of xs) (body ∷ [])
+  heading_built (AssignName id sign) xs body = node kind.Assign (span_of xs) (ident id ∷ body ∷ [])
+  heading_built (AssignSelect prim point id sign) xs body =
+      node kind.Assign (span_of xs) (selected id (prim_tokens (SelectPrim prim point id)) (prim_built prim) ∷ body ∷ [])
+  heading_built (AssignApply prim args sign) xs body = updated xs (prim_built prim) (args_built args) body
 
   pub enums_built : Enums → List Generator
   enums_built (LastGen gen) = gen_built gen ∷ []

@@ -43,47 +43,52 @@ pub data ListKind : Type 0 where
   OfUnit : ListKind
 
 mutual
+  -- The alternatives that end in an Expr have their constructors in Heading.
   pub data Expr : Type 0 where
-    -- LamHead '=>' Expr
-    Lambda : LamHead → Arrow → Expr → Expr
-    -- 'if' '(' Expr ')' nls Expr
-    IfThen : (word opening : Place) → Expr → (closing : Place) → Expr → Expr
-    -- 'if' '(' Expr ')' nls Expr [';'] 'else' Expr
-    IfElse : (word opening : Place) → Expr → (closing : Place) → Expr → Option Place → (other : Place) → Expr → Expr
-    -- 'while' '(' Expr ')' nls Expr
-    WhileDo : (word opening : Place) → Expr → (closing : Place) → Expr → Expr
+    Headed : Heading → Expr → Expr
     -- 'do' Expr [sep] 'while' '(' Expr ')'
     DoThenWhile : (word : Place) → Expr → Sep → (until opening : Place) → Expr → (closing : Place) → Expr
-    -- 'try' Expr
-    TryAlone : (word : Place) → Expr → Expr
     -- 'try' Expr 'catch' '{' Case+ '}'
     TryCatch : (word : Place) → Expr → (catch opening : Place) → Cases → (closing : Place) → Expr
-    -- 'try' Expr 'finally' Expr
-    TryFinally : (word : Place) → Expr → (last : Place) → Expr → Expr
-    -- 'try' Expr 'catch' '{' Case+ '}' 'finally' Expr
-    TryCatchFinally : (word : Place) → Expr → (catch opening : Place) → Cases → (closing last : Place) → Expr → Expr
-    -- 'for' '(' Enums ')' nls ['yield'] Expr
-    ForRound : (word opening : Place) → Enums → (closing : Place) → Option Place → Expr → Expr
-    -- 'for' '{' Enums '}' nls ['yield'] Expr
-    ForCurly : (word opening : Place) → Enums → (closing : Place) → Option Place → Expr → Expr
-    -- 'throw' Expr
-    ThrowOf : (word : Place) → Expr → Expr
     -- 'return'
     ReturnAlone : (word : Place) → Expr
-    -- 'return' Expr
-    ReturnOf : (word : Place) → Expr → Expr
-    -- id '=' Expr
-    AssignName : Id → (sign : Place) → Expr → Expr
-    -- Prim '.' id '=' Expr
-    AssignSelect : Prim → (point : Place) → Id → (sign : Place) → Expr → Expr
-    -- Prim Args '=' Expr
-    AssignApply : Prim → Args → (sign : Place) → Expr → Expr
     -- Infix
     InfixExpr : Infix → Expr
     -- Infix ':' Type
     TypedExpr : Infix → (point : Place) → WrittenType → Expr
     -- Infix 'match' '{' Case+ '}'
     MatchExpr : Infix → (word opening : Place) → Cases → (closing : Place) → Expr
+
+  -- what stands before the Expr that an Expr ends in
+  pub data Heading : Type 0 where
+    -- LamHead '=>' Expr
+    Lambda : LamHead → Arrow → Heading
+    -- 'if' '(' Expr ')' nls Expr
+    IfThen : (word opening : Place) → Expr → (closing : Place) → Heading
+    -- 'if' '(' Expr ')' nls Expr [';'] 'else' Expr
+    IfElse : (word opening : Place) → Expr → (closing : Place) → Expr → Option Place → (other : Place) → Heading
+    -- 'while' '(' Expr ')' nls Expr
+    WhileDo : (word opening : Place) → Expr → (closing : Place) → Heading
+    -- 'try' Expr
+    TryAlone : (word : Place) → Heading
+    -- 'try' Expr 'finally' Expr
+    TryFinally : (word : Place) → Expr → (last : Place) → Heading
+    -- 'try' Expr 'catch' '{' Case+ '}' 'finally' Expr
+    TryCatchFinally : (word : Place) → Expr → (catch opening : Place) → Cases → (closing last : Place) → Heading
+    -- 'for' '(' Enums ')' nls ['yield'] Expr
+    ForRound : (word opening : Place) → Enums → (closing : Place) → Option Place → Heading
+    -- 'for' '{' Enums '}' nls ['yield'] Expr
+    ForCurly : (word opening : Place) → Enums → (closing : Place) → Option Place → Heading
+    -- 'throw' Expr
+    ThrowOf : (word : Place) → Heading
+    -- 'return' Expr
+    ReturnOf : (word : Place) → Heading
+    -- id '=' Expr
+    AssignName : Id → (sign : Place) → Heading
+    -- Prim '.' id '=' Expr
+    AssignSelect : Prim → (point : Place) → Id → (sign : Place) → Heading
+    -- Prim Args '=' Expr
+    AssignApply : Prim → Args → (sign : Place) → Heading
 
   -- Enums : Gen {sep Gen}
   pub data Enums : Type 0 where

@@ -1,7 +1,7 @@
 ghost use Rattle.std.specs.Prelude.{◌≡◌, [], ◌∷◌, IfOk};
 ghost use Rattle.compiler_loop.specs.ThinAnswer as spec;
 
-use super::locating::{Place, Spot};
+use super::locating::{ThinTree, Which};
 use super::reading::{ThinObject, ThinUnit, ThinVal, ValType};
 use ask_history::TreeInfo;
 use pc_terms::{NoMemory, Row, Span, SymKind, SymPath, SymStep, Text, TreeKind, Ty};
@@ -124,30 +124,30 @@ fn info_in_object(
     alloc: Global,
     object: &ThinObject,
     span: Span,
-    spot: Spot,
+    which: Which,
 ) -> Result<TreeInfo, NoMemory>
-    ensures { IfOk result (λ info. info ≡ spec.info_in_object object.now span spot) }
+    ensures { IfOk result (λ info. info ≡ spec.info_in_object object.now span which) }
 {
-    match spot {
-        Spot::Unit => Ok(bare_info(TreeKind::Unit, span)),
-        Spot::Object => object_info(alloc, &object.name, span),
-        Spot::Val(n) => match object.vals.get(n) {
+    match which {
+        Which::Unit => Ok(bare_info(TreeKind::Unit, span)),
+        Which::Object => object_info(alloc, &object.name, span),
+        Which::Val(n) => match object.vals.get(n) {
             Some(val) => val_info(alloc, &object.name, span, val),
             None => Ok(bare_info(TreeKind::ValDef, span)),
         },
-        Spot::Right(n) => match object.vals.get(n) {
+        Which::Right(n) => match object.vals.get(n) {
             Some(val) => right_info(alloc, &object.name, span, val),
             None => Ok(bare_info(TreeKind::Literal, span)),
         },
     }
 }
 
-/// The tree at this place of a unit, with its type and symbol.
-pub fn info_at(alloc: Global, unit: &ThinUnit, place: Place) -> Result<TreeInfo, NoMemory>
-    ensures { IfOk result (λ info. info ≡ spec.info_at unit.now place) }
+/// This tree of a unit, with its type and symbol.
+pub fn info_at(alloc: Global, unit: &ThinUnit, tree: ThinTree) -> Result<TreeInfo, NoMemory>
+    ensures { IfOk result (λ info. info ≡ spec.info_at unit.now tree) }
 {
     match unit {
-        ThinUnit::Object(object) => info_in_object(alloc, object, place.span, place.spot),
-        ThinUnit::Empty | ThinUnit::Other => Ok(bare_info(TreeKind::Unit, place.span)),
+        ThinUnit::Object(object) => info_in_object(alloc, object, tree.span, tree.which),
+        ThinUnit::Empty | ThinUnit::Other => Ok(bare_info(TreeKind::Unit, tree.span)),
     }
 }

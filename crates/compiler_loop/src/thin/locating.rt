@@ -6,7 +6,7 @@ use pc_terms::Span;
 
 /// A tree of a unit: the unit, its object, a val by its number, or the right side of one.
 #[derive(Clone, Copy, Debug, PartialEq, Eq)]
-pub enum Spot {
+pub enum Which {
     Unit,
     Object,
     Val(usize),
@@ -15,42 +15,42 @@ pub enum Spot {
 
 /// Where a tree stands, and how many trees are around it.
 #[derive(Clone, Copy, Debug, PartialEq, Eq)]
-pub struct Place {
-    pub spot: Spot,
+pub struct ThinTree {
+    pub which: Which,
     pub depth: u32,
     pub span: Span,
 }
 
-fn encloses(offset: u32, place: Place) -> bool
-    ensures { result ≡ spec.encloses offset place }
+fn encloses(offset: u32, tree: ThinTree) -> bool
+    ensures { result ≡ spec.encloses offset tree }
 {
-    place.span.start <= offset && offset <= place.span.end
+    tree.span.start <= offset && offset <= tree.span.end
 }
 
-fn is_better(place: Place, best: Place) -> bool
-    ensures { result ≡ spec.is_better place best }
+fn is_better(tree: ThinTree, best: ThinTree) -> bool
+    ensures { result ≡ spec.is_better tree best }
 {
-    if place.span.start != best.span.start {
-        return place.span.start > best.span.start;
+    if tree.span.start != best.span.start {
+        return tree.span.start > best.span.start;
     }
-    if place.span.end != best.span.end {
-        return place.span.end < best.span.end;
+    if tree.span.end != best.span.end {
+        return tree.span.end < best.span.end;
     }
-    place.depth > best.depth
+    tree.depth > best.depth
 }
 
-fn better(offset: u32, best: Place, place: Place) -> Place
-    ensures { result ≡ spec.better offset best place }
+fn better(offset: u32, best: ThinTree, tree: ThinTree) -> ThinTree
+    ensures { result ≡ spec.better offset best tree }
 {
-    if encloses(offset, place) && is_better(place, best) {
-        place
+    if encloses(offset, tree) && is_better(tree, best) {
+        tree
     } else {
         best
     }
 }
 
-fn best_of_vals(offset: u32, best: Place, vals: &[ThinVal]) -> Place
-    ensures { result ≡ spec.best_of offset best (spec.val_places 0 vals.now) }
+fn best_of_vals(offset: u32, best: ThinTree, vals: &[ThinVal]) -> ThinTree
+    ensures { result ≡ spec.best_of offset best (spec.val_trees 0 vals.now) }
 {
     let mut best = best;
     for (n, val) in vals.iter().enumerate() {
@@ -61,8 +61,8 @@ fn best_of_vals(offset: u32, best: Place, vals: &[ThinVal]) -> Place
         best = better(
             offset,
             best,
-            Place {
-                spot: Spot::Val(n),
+            ThinTree {
+                which: Which::Val(n),
                 depth: 2,
                 span: whole,
             },
@@ -70,8 +70,8 @@ fn best_of_vals(offset: u32, best: Place, vals: &[ThinVal]) -> Place
         best = better(
             offset,
             best,
-            Place {
-                spot: Spot::Right(n),
+            ThinTree {
+                which: Which::Right(n),
                 depth: 3,
                 span: val.right,
             },
@@ -81,23 +81,23 @@ fn best_of_vals(offset: u32, best: Place, vals: &[ThinVal]) -> Place
 }
 
 /// The tree at an offset, of a unit with this many bytes.
-pub fn located(len: u32, offset: u32, unit: &ThinUnit) -> Place
+pub fn located(len: u32, offset: u32, unit: &ThinUnit) -> ThinTree
     ensures { result ≡ spec.located len offset unit.now }
 {
     let whole = Span { start: 0, end: len };
-    let best = Place {
-        spot: Spot::Unit,
+    let best = ThinTree {
+        which: Which::Unit,
         depth: 0,
         span: whole,
     };
     match unit {
         ThinUnit::Object(object) => {
-            let object_place = Place {
-                spot: Spot::Object,
+            let object_tree = ThinTree {
+                which: Which::Object,
                 depth: 1,
                 span: whole,
             };
-            let best = better(offset, best, object_place);
+            let best = better(offset, best, object_tree);
             best_of_vals(offset, best, object.vals.as_slice())
         }
         ThinUnit::Empty | ThinUnit::Other => best,

@@ -5,7 +5,7 @@ use Rattle.safe_points.proofs.stack.Stack.is_stale.Goals as goal
 pub returns-in-Some : goal.returns-in-Some
 returns-in-Some g c =
     let at = rw c.as_slice.ensures.value at c.in-Some.ensures.found in
-    rw (← c.self.view_is) (ap (λ entry. entry.stale) c.index.ensures ∙ sym (has_stale-at _ _ _ c.index.result.now c.self.invariant at))
+    rw (← c.self.view_is) (ap (λ ticketed. ticketed.stale) c.index.ensures ∙ sym (has_stale-at _ _ _ c.index.result.now c.self.invariant at))
 
 pub returns-in-None : goal.returns-in-None
 returns-in-None g c =

@@ -1,5 +1,5 @@
 use Rattle.std.proofs.Common.{Some, sym, ap, ◌∙◌, arith}
-use Rattle.safe_points.specs.declared.entry.Entry.{Entry}
+use Rattle.safe_points.specs.declared.ticketed.Ticketed.{Ticketed}
 use Rattle.safe_points.proofs.Tickets.{AreDistinct-remove, within, removed-at, removed-none, task_of-at, task_of-none}
 use Rattle.safe_points.proofs.stack.Stack.remove.Goals as goal
 
@@ -23,7 +23,7 @@ invariant_of-self g c = rw c.remove-task.ensures.items (AreDistinct-remove _ _ c
 pub returns-clause-task : goal.returns-clause-task
 returns-clause-task g c =
     let at = rw c.as_slice.ensures.value at c.in_ok-index.ensures.found in
-    rw (← c.self.view_is) (ap (λ (entry : Entry g.row.T.Denot). Some entry.task) c.remove-task.ensures.value ∙ sym (task_of-at _ _ _ c.remove-task.result c.self.invariant at))
+    rw (← c.self.view_is) (ap (λ (ticketed : Ticketed g.row.T.Denot). Some ticketed.task) c.remove-task.ensures.value ∙ sym (task_of-at _ _ _ c.remove-task.result c.self.invariant at))
 
 pub returns-clause-rest : goal.returns-clause-rest
 returns-clause-rest g c =

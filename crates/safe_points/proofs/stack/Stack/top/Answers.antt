@@ -3,4 +3,4 @@ use Rattle.safe_points.proofs.Tickets.{slice_get-last}
 use Rattle.safe_points.proofs.stack.Stack.top.Goals as goal
 
 pub returns-clause-ticket : goal.returns-clause-ticket
-returns-clause-ticket g c = rw (← c.self.view_is, ← slice_get-last c.self.inside.entries.items) (search rules)
+returns-clause-ticket g c = rw (← c.self.view_is, ← slice_get-last c.self.inside.tasks.items) (search rules)

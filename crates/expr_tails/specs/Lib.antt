@@ -1,0 +1,5 @@
+pub mod Ending
+pub mod Operators
+pub mod Tails
+pub mod Symbols
+pub mod Types
