@@ -116,12 +116,16 @@ fn play_parts<
         { end_clients(rt, alloc, desk, closing, clients) },
     );
     match begun {
-        Ok((served, ended)) => Parts {
-            served,
-            clients: ClientsPart::Ended(ended),
-            spare,
-        },
-        Err(NotBegun { f, g: _ }) => {
+        Ok(both) => {
+            let (served, ended) = both;
+            Parts {
+                served,
+                clients: ClientsPart::Ended(ended),
+                spare,
+            }
+        }
+        Err(back) => {
+            let NotBegun { f, g: _ } = back;
             let index = shut_unbegun(rt, desk, &mut spare);
             Parts {
                 served: run(f),
