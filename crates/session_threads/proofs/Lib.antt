@@ -10,3 +10,4 @@ pub mod Makers
 pub mod Replies
 pub mod Wholes
 pub mod Leaving
+pub mod Sending

@@ -11,6 +11,7 @@ ghost use Rattle.session_threads.specs.Ended.{HaveEnded};
 ghost use Rattle.session_threads.specs.Left.{IsLeft};
 ghost use Rattle.session_threads.specs.Parts.{ArePasses, AreParts, RoseIfRefused};
 ghost use Rattle.session_threads.specs.Passes.{IsEngines, IsNew};
+ghost use Rattle.session_threads.specs.Served.{HasServed};
 ghost use Rattle.session_threads.specs.Sessions.{IsSession, RoseIfUnbegun};
 ghost use Rattle.session_threads.specs.declared.outcome.Outcome.TheVariants as became;
 
@@ -105,6 +106,8 @@ fn play_parts<
         rt,
         || -> Served<B>
             requires { IsEngines pass.pass pass.made pass.made × (N.state engine.now ≡ fresh_state) }
+            ensures served { HasServed N.answer_of N.problems_of pass.made result.pass.pass result.found }
+            ensures told { OfEach (IsToldMost (of_box told) (of_box (λ z. (Reporter-dyn z).faults z.1)) (findings_in result.pass.pass.seen)) (reporters_of hub) (reporters_of result.hub) }
         { serve(rt, alloc, desk, pass, hub, engine, gate) },
         || -> Ended<B>
             requires { AreReady clients.items × IsNew closing (length clients.items) }
