@@ -1,9 +1,10 @@
-//! Runs schedules of an editor's session.
+//! Runs schedules of an editor's session, and clients of one on threads.
 #![tactic(auto)]
 
 use compiler_loop::Core;
-use pc_outside::{Sink, StdFiles, WriterSink};
-use session_run::{SinkReporter, run_alone};
+use pc_outside::{OpenGate, Sink, StdFiles, ThreadSpawner, WriterSink};
+use session_run::{Mode, SinkReporter, mode_of, run_alone};
+use session_threads::run_threads;
 use std::process::ExitCode;
 use std::rt::Env;
 use std::{env, io};
@@ -26,15 +27,29 @@ fn main(rt: HostRuntime) -> ExitCode {
     let reporter = SinkReporter::new(alloc, WriterSink::new(rt.stderr()));
     match (Core::new(alloc), Box::new(alloc, reporter)) {
         (Ok(mut engine), Ok(reporter)) => {
-            let report = run_alone(
-                alloc,
-                &words,
-                &mut files,
-                &mut out,
-                &mut err,
-                &mut engine,
-                reporter,
-            );
+            let report = match mode_of(&words) {
+                Mode::Threads => run_threads(
+                    &rt,
+                    alloc,
+                    &words,
+                    &mut files,
+                    &mut out,
+                    &mut err,
+                    &mut engine,
+                    &mut ThreadSpawner::new(),
+                    &mut OpenGate {},
+                    reporter,
+                ),
+                Mode::Alone | Mode::Bad => run_alone(
+                    alloc,
+                    &words,
+                    &mut files,
+                    &mut out,
+                    &mut err,
+                    &mut engine,
+                    reporter,
+                ),
+            };
             ExitCode::from(report.status)
         }
         _ => {

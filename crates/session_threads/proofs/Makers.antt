@@ -280,9 +280,10 @@ module _ {B : Type 0} (answer_of : Sources → Call → Answer) (problems_of : S
             let s = is_seen c script there in
             let upto = (played_by c script s.is).upto in
             let bounded = (played_by c script s.is).bounded in
-            subst (λ (es : List Entry). IsPrefix es (map seen_entry front)) (sym s.same)
-            (map seen_entry (bounded.0 ++ more),
-            sym (map-append seen_entry upto (bounded.0 ++ more)) ∙ ap (map seen_entry) (sym (append_assoc upto bounded.0 more) ∙ ap (λ es. es ++ more) bounded.1 ∙ sym is))
+            subst (λ (es : List Entry). IsPrefix es (map seen_entry front)) (sym s.same) (
+              map seen_entry (bounded.0 ++ more),
+              sym (map-append seen_entry upto (bounded.0 ++ more)) ∙ ap (map seen_entry) (sym (append_assoc upto bounded.0 more) ∙ ap (λ es. es ++ more) bounded.1 ∙ sym is),
+            )
 
         closer_only : (front more : List Noted) (noted : Noted) (event : Event) → front ≡ before ++ more → IsShutting front noted event → IsServants scripts seen_at (map seen_entry front) event
         closer_only front more noted (Accept t client tag call) is r = absurd r

@@ -257,12 +257,7 @@ fn nothing(alloc: Global, reporter: Box<dyn Reporter + Send>) -> Session
 }
 
 /// Plays a session of clients with these scripts on threads, with the reporter attached, and gives it back.
-pub(crate) fn play_session<
-    R: Threads + Wait + Sync,
-    S: Spawner,
-    G: Gate + Send,
-    N: Engine + Send,
->(
+pub(crate) fn play_session<R: Threads + Wait + Sync, S: Spawner, G: Gate + Send, N: Engine + Send>(
     rt: &R,
     alloc: Global,
     scripts: Row<Script>,
