@@ -116,12 +116,16 @@ fn play_parts<
         { end_clients(rt, alloc, desk, closing, clients) },
     );
     match begun {
-        Ok((served, ended)) => Parts {
-            served,
-            clients: ClientsPart::Ended(ended),
-            spare,
-        },
-        Err(NotBegun { f, g: _ }) => {
+        Ok(both) => {
+            let (served, ended) = both;
+            Parts {
+                served,
+                clients: ClientsPart::Ended(ended),
+                spare,
+            }
+        }
+        Err(back) => {
+            let NotBegun { f, g: _ } = back;
             let index = shut_unbegun(rt, desk, &mut spare);
             Parts {
                 served: run(f),
@@ -253,12 +257,7 @@ fn nothing(alloc: Global, reporter: Box<dyn Reporter + Send>) -> Session
 }
 
 /// Plays a session of clients with these scripts on threads, with the reporter attached, and gives it back.
-pub(crate) fn play_session<
-    R: Threads + Wait + Sync,
-    S: Spawner,
-    G: Gate + Send,
-    N: Engine + Send,
->(
+pub(crate) fn play_session<R: Threads + Wait + Sync, S: Spawner, G: Gate + Send, N: Engine + Send>(
     rt: &R,
     alloc: Global,
     scripts: Row<Script>,

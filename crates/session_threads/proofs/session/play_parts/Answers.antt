@@ -2,18 +2,23 @@
 use mir.Syntax.{named, of_param}
 use denote.Exit.{yes}
 use denote.Param.{param}
+use denote.Param.Object.{Vt, ghosts_of}
 use denote.Param.Send.{IsSend, mut_send}
-use Rattle.std.proofs.Common.{[], length, ◌∙◌, sym, ap, subst}
+use Rattle.std.proofs.Common.{◌≡◌, Global, Vec, rules, length, ◌∙◌, sym, ap, subst}
 use Rattle.std.proofs.Crossing.{Vec-send}
 use Rattle.std.proofs.lemmas.List.{length-map}
 use Rattle.std.proofs.alloc.Global.TheSendSync as heap
 use Rattle.ask_desk.proofs.Crossing.{desk_sync, leaving_if}
 use Rattle.ask_desk.proofs.pass.EnginePass.TheSendSync as engine_crosses
 use Rattle.ask_desk.proofs.pass.Pass.TheSendSync as pass_crosses
+use Rattle.std.specs.Prelude.{IfSome}
+use Rattle.session_threads.specs.Clients.{scripts_played}
 use Rattle.session_threads.specs.Ended.{HaveEnded}
 use Rattle.session_threads.specs.Served.{HasServed}
 use Rattle.session_threads.specs.contracts.clients.Client as client
-use Rattle.session_threads.proofs.Sending.{client_send, ended_send}
+use Rattle.session_threads.specs.declared.clients.Played.{Played}
+use Rattle.session_threads.specs.contracts.session.play_parts.dyn-1 as table
+use Rattle.session_threads.proofs.Sending.{client_send, ended_send, hub_send}
 use Rattle.session_threads.proofs.session.play_parts.Goals as goal
 
 pub beside-begun-requires-send-B : goal.beside-begun-requires-send-B
@@ -22,6 +27,8 @@ beside-begun-requires-send-B g c κs within =
 
 pub beside-begun-requires-send-F : goal.beside-begun-requires-send-F
 beside-begun-requires-send-F g c κs within =
+    let sends : (i : g.dyn-1.0.I) → IsSend (g.dyn-1.0.entry i).0 = search rules in
+    let vtables : IsSend (Vt (table.slots g.row.B g.row.R g.row.S g.row.G g.row.N) g.dyn-1.0) = search rules in
     let desk = desk_sync _ g.B.Room c.type_bounds.send-B c.type_bounds.sync-B in
     let handle = c.type_bounds.sync-R in
     record {
@@ -36,7 +43,7 @@ beside-begun-requires-send-F g c κs within =
               (
                 (engine_crosses.the_send (param 0 g.row.B) g.B.Room).owned d.3 vss.1.1.1.0,
                 (
-                  (let sends : (i : g.dyn-1.0.I) → IsSend (g.dyn-1.0.entry i).0 = (λ i. let law = g.dyn-1.1 i in ?) in ?),
+                  (hub_send (Vt (table.slots g.row.B g.row.R g.row.S g.row.G g.row.N) g.dyn-1.0) (ghosts_of (table.slots g.row.B g.row.R g.row.S g.row.G g.row.N) g.dyn-1.0 g.dyn-1.1) sends vtables).owned d.4 vss.1.1.1.1.0,
                   (
                     (mut_send (named 0) κs.0 _ c.type_bounds.send-N).owned d.5 vss.1.1.1.1.1.0,
                     ((mut_send (named 0) κs.0 _ c.type_bounds.send-G).owned d.6 vss.1.1.1.1.1.1.0, tt),
@@ -68,20 +75,13 @@ beside-begun-requires-send-G g c κs within =
     }
 
 pub returns-in-Ok-clause-parts : goal.returns-in-Ok-clause-parts
-returns-in-Ok-clause-parts g c = λ scripts passes. record {
-  served = subst (λ n. HasServed g.N.Engine.answer_of g.N.Engine.problems_of n _ _) passes.engine.count_is ?;
-  clients = record {
-    ended_is = ?;
-    scripted = ?;
-    spare_is = passes.spare;
-  };
-}
-
-pub returns-clause-parts : goal.returns-clause-parts
-returns-clause-parts g c = λ scripts passes. let h = c.in-Err.ensures.handed_back in let e = c.in-Err.f-is in record {
-  served = ?;
-  clients = c.shut_unbegun-index.ensures.shut;
-}
-
-pub returns-clause-told : goal.returns-clause-told
-returns-clause-told g c = let h = c.in-Err.ensures.handed_back.0 in let e = c.in-Err.f-is in let i = c.in-Err.is in let j = c.in-Err.field-0-is in ?
+returns-in-Ok-clause-parts g c = λ scripts passes.
+    let clients = c.args.passes.clients.items in
+    record {
+      served = subst (λ n. HasServed g.N.Engine.answer_of g.N.Engine.problems_of n c.in-Ok.both.0.pass.pass c.in-Ok.both.0.found) passes.engine.count_is c.in-Ok.ensures.first.0;
+      clients = record {
+        ended_is = subst (λ n. HaveEnded n c.in-Ok.both.1) (sym (length-map clients (λ client. client.script)) ∙ ap length passes.scripted) c.in-Ok.ensures.second.0;
+        scripted = subst (λ ss. IfSome c.in-Ok.both.1.clients (λ (all : Vec (Played g.row.B.Denot) Global). scripts_played all.items ≡ ss)) passes.scripted c.in-Ok.ensures.second.1;
+        spare_is = passes.spare;
+      };
+    }
