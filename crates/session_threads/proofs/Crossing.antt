@@ -15,7 +15,7 @@ use Rattle.session_threads.specs.contracts.clients.Played as played
 answer_row_send : IsSend answer.the_row
 answer_row_send = search (recorded_send, answer_send)
 
-script_send : IsSend (script.the_field).row
+pub script_send : IsSend (script.the_field).row
 script_send = struct_send (structs.shape script.the_type) (row_crosses.the_send line.the_row line_crosses.the_send, tt)
 
 module _ (B : RattleType) (room : Ghosts B.Denot) where

@@ -1,6 +1,8 @@
 pub mod Ready
 pub mod Joining
 pub mod Crossing
+pub mod Readable
+pub mod Running
 pub mod Full
 pub mod Findings
 pub mod Splits
@@ -8,3 +10,4 @@ pub mod Makers
 pub mod Replies
 pub mod Wholes
 pub mod Leaving
+pub mod Sending

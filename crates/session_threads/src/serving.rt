@@ -41,9 +41,7 @@ pub(crate) fn serve<B: Room, N: Engine, G: Gate, R: Wait>(
 {
     let mut hub = hub;
     let mut found: Vec<Row<Problem>> = Vec::new(alloc);
-    let pass = drive(
-        rt, alloc, desk, pass, engine, &mut hub, gate, &mut found,
-    );
+    let pass = drive(rt, alloc, desk, pass, engine, &mut hub, gate, &mut found);
     Served {
         pass,
         hub,

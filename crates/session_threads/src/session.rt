@@ -11,6 +11,7 @@ ghost use Rattle.session_threads.specs.Ended.{HaveEnded};
 ghost use Rattle.session_threads.specs.Left.{IsLeft};
 ghost use Rattle.session_threads.specs.Parts.{ArePasses, AreParts, RoseIfRefused};
 ghost use Rattle.session_threads.specs.Passes.{IsEngines, IsNew};
+ghost use Rattle.session_threads.specs.Served.{HasServed};
 ghost use Rattle.session_threads.specs.Sessions.{IsSession, RoseIfUnbegun};
 ghost use Rattle.session_threads.specs.declared.outcome.Outcome.TheVariants as became;
 
@@ -39,25 +40,6 @@ pub(crate) struct Session {
     pub(crate) outcome: Outcome,
     pub(crate) found: Row<Row<Problem>>,
     pub(crate) reporter: Box<dyn Reporter + Send>,
-}
-
-// A hub with the reporter, and its number there. Out of memory the reporter comes back.
-fn attached(
-    alloc: Global,
-    reporter: Box<dyn Reporter + Send>,
-) -> Result<(Hub, usize), Box<dyn Reporter + Send>>
-    ensures hub { IfOk result (λ both. reporters_of both.0 ≡ Some reporter ∷ []) }
-    ensures number { IfOk result (λ both. both.1 ≡ 0) }
-    ensures handed_back { IfErr result (λ back. back ≡ reporter) }
-{
-    let mut hub = match Hub::new(alloc) {
-        Ok(hub) => hub,
-        Err(NoMemory {}) => return Err(reporter),
-    };
-    match hub.attach(reporter) {
-        Ok(number) => Ok((hub, number)),
-        Err(reporter) => Err(reporter),
-    }
 }
 
 // The desk of a session, and its passes.
@@ -124,6 +106,8 @@ fn play_parts<
         rt,
         || -> Served<B>
             requires { IsEngines pass.pass pass.made pass.made × (N.state engine.now ≡ fresh_state) }
+            ensures served { HasServed N.answer_of N.problems_of pass.made result.pass.pass result.found }
+            ensures told { OfEach (IsToldMost (of_box told) (of_box (λ z. (Reporter-dyn z).faults z.1)) (findings_in result.pass.pass.seen)) (reporters_of hub) (reporters_of result.hub) }
         { serve(rt, alloc, desk, pass, hub, engine, gate) },
         || -> Ended<B>
             requires { AreReady clients.items × IsNew closing (length clients.items) }
@@ -132,12 +116,16 @@ fn play_parts<
         { end_clients(rt, alloc, desk, closing, clients) },
     );
     match begun {
-        Ok((served, ended)) => Parts {
-            served,
-            clients: ClientsPart::Ended(ended),
-            spare,
-        },
-        Err(NotBegun { f, g: _ }) => {
+        Ok(both) => {
+            let (served, ended) = both;
+            Parts {
+                served,
+                clients: ClientsPart::Ended(ended),
+                spare,
+            }
+        }
+        Err(back) => {
+            let NotBegun { f, g: _ } = back;
             let index = shut_unbegun(rt, desk, &mut spare);
             Parts {
                 served: run(f),
@@ -269,12 +257,7 @@ fn nothing(alloc: Global, reporter: Box<dyn Reporter + Send>) -> Session
 }
 
 /// Plays a session of clients with these scripts on threads, with the reporter attached, and gives it back.
-pub(crate) fn play_session<
-    R: Threads + Wait + Sync,
-    S: Spawner,
-    G: Gate + Send,
-    N: Engine + Send,
->(
+pub(crate) fn play_session<R: Threads + Wait + Sync, S: Spawner, G: Gate + Send, N: Engine + Send>(
     rt: &R,
     alloc: Global,
     scripts: Row<Script>,
@@ -290,8 +273,12 @@ pub(crate) fn play_session<
     ensures told { IsToldMost told (λ b. (Reporter-box b).faults b.value) (findings N.problems_of result.journal.events) reporter result.reporter }
     ensures counts { RoseIfUnbegun result.outcome (S.faults spawner.old) (S.faults spawner.new) }
 {
-    let (hub, number) = match attached(alloc, reporter) {
-        Ok(both) => both,
+    let mut hub = match Hub::new(alloc) {
+        Ok(hub) => hub,
+        Err(NoMemory {}) => return nothing(alloc, reporter),
+    };
+    let number = match hub.attach(reporter) {
+        Ok(number) => number,
         Err(reporter) => return nothing(alloc, reporter),
     };
     let Left {

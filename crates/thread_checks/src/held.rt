@@ -3,82 +3,44 @@
 use crate::judge::judge;
 use crate::judging::rows;
 use crate::lines::Line;
-use crate::listener::Listener;
 use crate::paced::Paced;
-use crate::runs::{NONE, clients_of, files_of};
+use crate::runs::{Ended, NONE, clients_of, files_of, run_engine};
 use crate::sources::{File, Source};
 use crate::steps::steps_of;
-use ask_history::Journal;
 use compiler_loop::Core;
-use pc_outside::{Gate, HoldingGate, MemoryFiles, MemorySink, MemorySpawner};
+use pc_outside::{HoldingGate, MemorySink};
 use pc_terms::NoMemory;
-use session_run::Report;
-use session_threads::run_threads;
 use std::alloc::Global;
-use std::sync::atomic::AtomicU64;
-use std::sync::{Arc, Barrier, Wait};
+use std::sync::{Barrier, Wait};
 use std::test::Fail;
 use std::thread::{Threads, join};
-
-/// What a run left: its status, its journal, and what is printed.
-#[derive(Drop)]
-struct Left {
-    status: u8,
-    journal: Journal,
-    out: MemorySink,
-}
-
-fn run_paced<R: Threads + Wait + Sync, G: Gate + Send>(
-    rt: &R,
-    alloc: Global,
-    words: &[String],
-    files: &mut MemoryFiles,
-    gate: &mut G,
-) -> Result<Left, NoMemory> {
-    let log = Arc::new(alloc, AtomicU64::new(0))?;
-    let reporter = Box::new(alloc, Listener::new(alloc, Vec::new(alloc), log))?;
-    let mut out = MemorySink::new(alloc, Vec::new(alloc));
-    let mut err = MemorySink::new(alloc, Vec::new(alloc));
-    let mut spawner = MemorySpawner::new(Vec::new(alloc));
-    let mut engine = Paced {
-        core: Core::new(alloc)?,
-        trees: 2,
-    };
-    let report = run_threads(
-        rt,
-        alloc,
-        words,
-        files,
-        &mut out,
-        &mut err,
-        &mut engine,
-        &mut spawner,
-        gate,
-        reporter,
-    );
-    let Report {
-        status,
-        ending: _,
-        journal,
-        reporter: _,
-    } = report;
-    Ok(Left {
-        status,
-        journal,
-        out,
-    })
-}
 
 fn play_held<R: Threads + Wait + Sync>(
     rt: &R,
     alloc: Global,
     scripts: &[Vec<Line>],
     meetings: &Barrier,
-) -> Result<Left, NoMemory> {
+    out: &mut MemorySink,
+) -> Result<Ended, NoMemory> {
     let mut files = files_of(alloc, &NONE)?;
     let words = clients_of(alloc, &mut files, scripts)?;
+    let mut err = MemorySink::new(alloc, Vec::new(alloc));
     let mut gate = HoldingGate::new(meetings);
-    run_paced(rt, alloc, &words, &mut files, &mut gate)
+    let mut engine = Paced {
+        core: Core::new(alloc)?,
+        trees: 2,
+    };
+    run_engine(
+        rt,
+        alloc,
+        &words,
+        &mut files,
+        out,
+        &mut err,
+        &mut engine,
+        &mut gate,
+        &NONE,
+    )
 }
 
 // Holds the engine from one meeting to the next.
@@ -91,14 +53,15 @@ fn play_beside<R: Threads + Wait + Sync>(
     rt: &R,
     alloc: Global,
     scripts: &[Vec<Line>],
-) -> Result<Left, NoMemory> {
+    out: &mut MemorySink,
+) -> Result<Ended, NoMemory> {
     let meetings = Barrier::new(2);
-    let ((), left) = join(
+    let ((), ended) = join(
         rt,
         || hold(rt, &meetings),
-        || play_held(rt, alloc, scripts, &meetings),
+        || play_held(rt, alloc, scripts, &meetings, out),
     );
-    left
+    ended
 }
 
 // The engine has no memory for the removal, which so takes no effect.
@@ -130,13 +93,14 @@ const END: &str = "client\t0\n\
 fn an_engine_that_is_held_serves_all_calls_in_the_end(rt: HostRuntime) -> Result<(), Fail> {
     let alloc = rt.alloc();
     let scripts = rows(alloc, SCRIPTS)?;
-    let left = play_beside(&rt, alloc, &scripts)?;
-    let steps = steps_of(alloc, &left.journal)?;
+    let mut out = MemorySink::new(alloc, Vec::new(alloc));
+    let ended = play_beside(&rt, alloc, &scripts, &mut out)?;
+    let steps = steps_of(alloc, &ended.journal)?;
     let mut text = String::new(alloc);
     let stray = judge(alloc, &scripts, &steps, &mut text)?;
-    assert_eq!(&rt; left.status, 0);
+    assert_eq!(&rt; ended.status, 0);
     assert_eq!(&rt; stray, None);
-    assert_eq!(&rt; left.out.bytes(), text.as_bytes());
-    assert!(&rt; left.out.bytes().ends_with(END.as_bytes()));
+    assert_eq!(&rt; out.bytes(), text.as_bytes());
+    assert!(&rt; out.bytes().ends_with(END.as_bytes()));
     Ok(())
 }

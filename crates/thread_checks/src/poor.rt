@@ -2,11 +2,11 @@
 
 use crate::contents::{Content, add};
 use crate::judge::judge;
+use crate::judging::rows;
 use crate::lines::Line;
-use crate::runs::{NONE, files_of, run_words};
+use crate::runs::{Ended, NONE, files_of, run_words, words_of};
 use crate::sources::Source;
 use crate::steps::steps_of;
-use ask_history::Journal;
 use pc_outside::{Files, MemoryFiles, MemorySink, PutRefused, ReadRefused, Sink};
 use pc_terms::NoMemory;
 use std::alloc::Global;
@@ -62,45 +62,48 @@ impl Sink for PoorSink {
 
 const SCRIPT: &str = "reload A.scala number.txt\nreload B.scala longer.txt\n";
 
-/// What a run left: its status, what it told the user, and the order of its journal's events.
-#[derive(Drop)]
-struct Left {
-    status: u8,
-    err: MemorySink,
-    journal: Journal,
-}
+const LINES: &[&[Line]] = &[&[Line::Reload(Source::Number), Line::Reload(Source::Longer)]];
 
 fn run_over<R: Threads + Wait + Sync, O: Sink>(
     rt: &R,
     alloc: Global,
     reads: u64,
     out: &mut O,
-) -> Result<Left, NoMemory> {
-    let mut words = Vec::new(alloc);
-    words.push(String::from_str(alloc, "replay")?)?;
-    words.push(String::from_str(alloc, "s")?)?;
+    err: &mut MemorySink,
+) -> Result<Ended, NoMemory> {
+    let words = words_of(alloc, &["replay", "s"])?;
     let mut files = files_of(alloc, &NONE)?;
     add(alloc, &mut files, &[("s", Content::Text(SCRIPT))])?;
     let mut files = PoorFiles { files, reads };
-    let mut err = MemorySink::new(alloc, Vec::new(alloc));
-    let (status, journal, _) = run_words(rt, alloc, &words, &mut files, out, &mut err, &NONE)?;
-    Ok(Left {
-        status,
-        err,
-        journal,
-    })
+    run_words(rt, alloc, &words, &mut files, out, err, &NONE)
+}
+
+fn empty_sink(alloc: Global) -> MemorySink {
+    MemorySink::new(alloc, Vec::new(alloc))
 }
 
 // The script and the two sources are read in this order.
 #[test]
 fn a_read_without_memory_ends_the_run(rt: HostRuntime) -> Result<(), Fail> {
     for reads in 0..4 {
-        let mut out = MemorySink::new(rt.alloc(), Vec::new(rt.alloc()));
-        let left = run_over(&rt, rt.alloc(), reads, &mut out)?;
+        let mut out = empty_sink(rt.alloc());
+        let mut err = empty_sink(rt.alloc());
+        let ended = run_over(&rt, rt.alloc(), reads, &mut out, &mut err)?;
         let is_enough = reads == 3;
-        assert_eq!(&rt; left.status, if is_enough { 0 } else { 7 }, "{reads} reads");
-        assert_eq!(&rt; left.err.bytes().len(), if is_enough { 0 } else { 10 });
-        assert_eq!(&rt; left.journal.events.is_empty(), !is_enough);
+        assert_eq!(&rt;
+            ended.status,
+            if is_enough { 0 } else { 7 },
+            "{reads} reads"
+        );
+        assert_eq!(&rt;
+            err.bytes(),
+            if is_enough {
+                b"".as_slice()
+            } else {
+                b"no memory\n".as_slice()
+            }
+        );
+        assert_eq!(&rt; ended.journal.events.is_empty(), !is_enough);
         assert_eq!(&rt; out.bytes().is_empty(), !is_enough);
     }
     Ok(())
@@ -110,16 +113,13 @@ fn a_read_without_memory_ends_the_run(rt: HostRuntime) -> Result<(), Fail> {
 #[test]
 fn a_put_without_memory_ends_the_run(rt: HostRuntime) -> Result<(), Fail> {
     let alloc = rt.alloc();
-    let left = run_over(&rt, alloc, 3, &mut PoorSink { whole: true })?;
-    assert_eq!(&rt; left.status, 7);
-    assert_eq!(&rt; left.err.bytes(), b"no memory\n".as_slice());
-    let steps = steps_of(alloc, &left.journal)?;
-    let mut script = Vec::new(alloc);
-    script.push(Line::Reload(Source::Number))?;
-    script.push(Line::Reload(Source::Longer))?;
-    let mut scripts = Vec::new(alloc);
-    scripts.push(script)?;
+    let mut err = empty_sink(alloc);
+    let ended = run_over(&rt, alloc, 3, &mut PoorSink { whole: true }, &mut err)?;
+    let steps = steps_of(alloc, &ended.journal)?;
+    let scripts = rows(alloc, LINES)?;
     let mut text = String::new(alloc);
+    assert_eq!(&rt; ended.status, 7);
+    assert_eq!(&rt; err.bytes(), b"no memory\n".as_slice());
     assert_eq!(&rt; judge(alloc, &scripts, &steps, &mut text)?, None);
     Ok(())
 }

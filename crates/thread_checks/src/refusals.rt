@@ -1,7 +1,7 @@
 //! Runs that come to no session, or to one that is not printed whole.
 
 use crate::contents::{Content, add};
-use crate::runs::{Failing, Left, NONE, files_of, run};
+use crate::runs::{Failing, Left, NONE, files_of, run, words_of};
 use crate::steps::Step;
 use pc_terms::NoMemory;
 use std::alloc::Global;
@@ -88,14 +88,6 @@ const CLOSING: Case = Case {
     steps: &[Step::Close],
     ..REFUSED
 };
-
-fn words_of(alloc: Global, words: &[&str]) -> Result<Vec<String>, NoMemory> {
-    let mut owned = Vec::new(alloc);
-    for word in words {
-        owned.push(String::from_str(alloc, word)?)?;
-    }
-    Ok(owned)
-}
 
 fn run_case<R: Threads + Wait + Sync>(
     rt: &R,

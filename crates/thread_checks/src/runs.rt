@@ -1,13 +1,15 @@
-//! Runs of clients over the forms in memory, with the program's engine.
+//! Runs of clients over the forms in memory.
+ghost use Rattle.std.specs.Prelude.{◌≡◌};
+ghost use Rattle.ask_history.specs.Engine.{fresh_state};
 
 use crate::judge::judge;
 use crate::lines::{Line, script_text};
 use crate::listener::{Listener, log_of};
 use crate::sources::{SOURCES, facts_of};
 use crate::steps::{Step, steps_of};
-use ask_history::Journal;
+use ask_history::{Engine, Journal};
 use compiler_loop::Core;
-use pc_outside::{Files, MemoryFiles, MemorySink, MemorySpawner, OpenGate, Sink};
+use pc_outside::{Files, Gate, MemoryFiles, MemorySink, MemorySpawner, OpenGate, Sink};
 use pc_terms::NoMemory;
 use session_run::Report;
 use session_threads::run_threads;
@@ -34,7 +36,15 @@ pub const NONE: Failing = Failing {
     reports: &[],
 };
 
-/// What a run left: its status, the order of its journal's events, what is on its sinks, and the log of its reporter.
+/// How a run ended: its status, its journal, and the log of its reporter.
+#[derive(Drop)]
+pub struct Ended {
+    pub status: u8,
+    pub journal: Journal,
+    pub log: u64,
+}
+
+/// What a run left: how it ended, the order of its journal's events, and what is on its sinks.
 #[derive(Drop)]
 pub struct Left {
     pub status: u8,
@@ -44,22 +54,24 @@ pub struct Left {
     pub log: u64,
 }
 
-// The status of a run, its journal, and the log of its reporter.
-pub fn run_words<R: Threads + Wait + Sync, F: Files, O: Sink>(
+/// A run of these words with an engine to which nothing was fed.
+pub fn run_engine<R: Threads + Wait + Sync, F: Files, O: Sink, G: Gate + Send, N: Engine + Send>(
     rt: &R,
     alloc: Global,
     words: &[String],
     files: &mut F,
     out: &mut O,
     err: &mut MemorySink,
+    engine: &mut N,
+    gate: &mut G,
     failing: &Failing,
-) -> Result<(u8, Journal, u64), NoMemory> {
+) -> Result<Ended, NoMemory>
+    requires fresh { N.state engine.old ≡ fresh_state }
+{
     let log = Arc::new(alloc, AtomicU64::new(0))?;
     let listener = Listener::new(alloc, failing.reports.to_vec(alloc)?, log.clone()?);
     let reporter = Box::new(alloc, listener)?;
     let mut spawner = MemorySpawner::new(failing.threads.to_vec(alloc)?);
-    let mut gate = OpenGate {};
-    let mut engine = Core::new(alloc)?;
     let report = run_threads(
         rt,
         alloc,
@@ -67,9 +79,9 @@ pub fn run_words<R: Threads + Wait + Sync, F: Files, O: Sink>(
         files,
         out,
         err,
-        &mut engine,
+        engine,
         &mut spawner,
-        &mut gate,
+        gate,
         reporter,
     );
     let Report {
@@ -78,7 +90,36 @@ pub fn run_words<R: Threads + Wait + Sync, F: Files, O: Sink>(
         journal,
         reporter: _,
     } = report;
-    Ok((status, journal, log.load(Ordering::SeqCst)))
+    Ok(Ended {
+        status,
+        journal,
+        log: log.load(Ordering::SeqCst),
+    })
+}
+
+/// A run of these words with the program's engine and gate.
+pub fn run_words<R: Threads + Wait + Sync, F: Files, O: Sink>(
+    rt: &R,
+    alloc: Global,
+    words: &[String],
+    files: &mut F,
+    out: &mut O,
+    err: &mut MemorySink,
+    failing: &Failing,
+) -> Result<Ended, NoMemory> {
+    let mut gate = OpenGate {};
+    let mut engine = Core::new(alloc)?;
+    run_engine(
+        rt,
+        alloc,
+        words,
+        files,
+        out,
+        err,
+        &mut engine,
+        &mut gate,
+        failing,
+    )
 }
 
 /// A run of these words over these files.
@@ -91,14 +132,23 @@ pub fn run<R: Threads + Wait + Sync>(
 ) -> Result<Left, NoMemory> {
     let mut out = MemorySink::new(alloc, failing.puts.to_vec(alloc)?);
     let mut err = MemorySink::new(alloc, Vec::new(alloc));
-    let (status, journal, log) = run_words(rt, alloc, words, files, &mut out, &mut err, failing)?;
+    let ended = run_words(rt, alloc, words, files, &mut out, &mut err, failing)?;
     Ok(Left {
-        status,
-        steps: steps_of(alloc, &journal)?,
+        status: ended.status,
+        steps: steps_of(alloc, &ended.journal)?,
         out,
         err,
-        log,
+        log: ended.log,
     })
+}
+
+/// These words, each owned.
+pub fn words_of(alloc: Global, words: &[&str]) -> Result<Vec<String>, NoMemory> {
+    let mut owned = Vec::new(alloc);
+    for word in words {
+        owned.push(String::from_str(alloc, word)?)?;
+    }
+    Ok(owned)
 }
 
 fn insert(alloc: Global, files: &mut MemoryFiles, name: &str, text: &str) -> Result<(), NoMemory> {

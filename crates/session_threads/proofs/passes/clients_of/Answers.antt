@@ -24,9 +24,16 @@ new_pass-pass-requires-clause-few g c =
 
 pub push_reserved-requires : goal.push_reserved-requires
 push_reserved-requires g c =
-    omega
-    (arith, ap length c.loop-script.invariant.left, length-append c.loop-script.yielded c.loop-script.script-iterator.rest.items, ap length c.in-Some.ensures.steps.0,
-    ap length c.loop-script.invariant.making.scripted, length-map c.loop-script.clients.items (λ client. client.script), c.loop-script.clients.ok.0, c.loop-script.invariant.room)
+    omega (
+      arith,
+      ap length c.loop-script.invariant.left,
+      length-append c.loop-script.yielded c.loop-script.script-iterator.rest.items,
+      ap length c.in-Some.ensures.steps.0,
+      ap length c.loop-script.invariant.making.scripted,
+      length-map c.loop-script.clients.items (λ client. client.script),
+      c.loop-script.clients.ok.0,
+      c.loop-script.invariant.room,
+    )
 
 pub loop-script-preserved : goal.loop-script-preserved
 loop-script-preserved g c = record {
