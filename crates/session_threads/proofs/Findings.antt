@@ -1,22 +1,21 @@
 -- What the engine's checks found is what the checks of the journal find.
-use Rattle.std.proofs.Common.{◌≡◌, Bool, true, false, true≢false, not, ◌&&◌, ◌||◌, ◌==◌, ℕ, IsTrue, List, [], ◌∷◌, ◌++◌, map, Some, refl, sym, ap, ◌∙◌, subst, append_assoc, append-nil, cond}
+use Rattle.std.proofs.Common.{◌≡◌, Bool, true, false, true≢false, not, ◌||◌, ◌==◌, IsTrue, List, [], ◌∷◌, ◌++◌, refl, sym, ap, ◌∙◌, subst, append_assoc, append-nil, cond}
 use Rattle.std.proofs.lemmas.Bool.{and_parts, eqb-true}
 use Rattle.pc_terms.specs.declared.problems.Problem.{Problem}
 use Rattle.ask_history.specs.Sources.{Bytes, Sources}
-use Rattle.ask_history.specs.Journal.{after, findings, finding_step, is_close, is_closed}
+use Rattle.ask_history.specs.Journal.{findings, finding_step, is_close, is_closed}
 use Rattle.ask_history.specs.Legal.{may_follow, is_legal}
-use Rattle.ask_history.specs.Walk.{walk, along}
+use Rattle.ask_history.specs.Walk.{walk}
 use Rattle.ask_history.specs.declared.answers.Answer.{Answer}
 use Rattle.ask_history.specs.declared.calls.Call.{Call}
 use Rattle.ask_history.specs.declared.events.Event.{Event}
 use Rattle.ask_history.specs.declared.events.Event.TheVariants.{Accept, Cancel, Close, Settle, Checked}
-use Rattle.ask_history.proofs.Walks.{walk-append, along-push}
+use Rattle.ask_history.proofs.Walks.{along-push}
 use Rattle.journal_laws.proofs.Tickets.{may_first}
 use Rattle.std.proofs.lemmas.List.Folds.{list_any-append}
 use Rattle.report_hub.specs.Telling.{Finding}
 use Rattle.counting_word.specs.declared.view.Entry.{Entry}
 use Rattle.counting_word.specs.declared.view.Found.{Found}
-use Rattle.counting_word.specs.declared.view.Found.TheVariants.{Nothing, Answered, Problems}
 use Rattle.counting_word.specs.History.{journal_of, engine_number}
 use Rattle.counting_word.proofs.Counting.{journal_of-append}
 use Rattle.ask_desk.specs.Answers.{may_make, is_rightful}

@@ -1,14 +1,12 @@
 -- Nothing follows a shutdown whose calls are all settled.
-use Rattle.std.proofs.Common.{◌≡◌, ℕ, ◌<◌, Bool, true, false, true≢false, not, ◌&&◌, ◌==◌, List, [], ◌∷◌, ◌++◌, IsTrue, refl, sym, ap, ◌∙◌, subst, append-nil}
+use Rattle.std.proofs.Common.{◌≡◌, ℕ, ◌<◌, true, true≢false, not, ◌==◌, List, [], ◌∷◌, ◌++◌, IsTrue, refl, sym, ap, ◌∙◌, subst, append-nil}
 use mathlib.Core.List.{IsPrefix}
 use Rattle.std.proofs.lemmas.Bool.{and_parts}
-use Rattle.std.proofs.lemmas.List.{map-append}
-use Rattle.ask_history.specs.Journal.{accepted, call_of, is_closed, is_open, is_settled, is_cancelled, after, checked}
+use Rattle.ask_history.specs.Journal.{accepted, call_of, is_closed, is_open, is_settled}
 use Rattle.ask_history.specs.Legal.{may_follow, is_legal, is_next}
-use Rattle.ask_history.specs.Sources.{is_loaded}
 use Rattle.ask_history.specs.declared.events.Event.{Event}
 use Rattle.ask_history.specs.declared.events.Event.TheVariants.{Accept, Cancel, Close, Settle, Checked}
-use Rattle.ask_history.proofs.Accepted.{accepted_below, settled_once}
+use Rattle.ask_history.proofs.Accepted.{accepted_below}
 use Rattle.ask_history.proofs.Plays.{settled_tickets}
 use Rattle.journal_laws.proofs.Tickets.{may_first}
 use Rattle.ask_history.specs.Journal.{all_settled}

@@ -6,17 +6,16 @@ use Rattle.std.specs.List.{AllZip}
 use Rattle.std.specs.Result.{result_ok}
 use Rattle.std.proofs.Math.Seq.{take-append_seam}
 use Rattle.std.proofs.lemmas.Option.{slice_get_read}
-use Rattle.ask_history.specs.Journal.{accepted, is_close, is_closed, is_settled}
+use Rattle.ask_history.specs.Journal.{is_close}
 use Rattle.ask_history.specs.declared.answers.Answer.{Answer}
 use Rattle.ask_history.specs.declared.events.Event.{Event}
 use Rattle.ask_history.specs.declared.script.Script.{Script}
 use Rattle.client_scripts.specs.Runs.{Runs, HasEnded, AreAnswers}
-use Rattle.work_queue.specs.Indexes.{close_index}
 use Rattle.work_queue.proofs.EventIndexes.{list_any-index_of}
 use Rattle.counting_word.specs.declared.view.Entry.{Entry}
 use Rattle.counting_word.specs.declared.view.Name.{Name}
 use Rattle.counting_word.specs.declared.view.View.{View}
-use Rattle.counting_word.specs.Calls.{Knows, Meets}
+use Rattle.counting_word.specs.Calls.{Meets}
 use Rattle.counting_word.specs.History.{journal_of}
 use Rattle.counting_word.proofs.Beginnings.{begins_itself, begins-trans}
 use Rattle.ask_desk.specs.Answers.{callers_find, closing, entries_for}

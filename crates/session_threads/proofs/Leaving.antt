@@ -1,5 +1,5 @@
 -- What is left of a session once its passes have met.
-use Rattle.std.proofs.Common.{◌≡◌, ℕ, zero, suc, ◌+◌, ◌<◌, Bool, true, false, ◌==◌, cond, IsTrue, List, [], ◌∷◌, ◌++◌, map, length, slice_get, Option, Some, None, is_some, refl, sym, ap, ◌∙◌, subst, arith, Vec, Global}
+use Rattle.std.proofs.Common.{◌≡◌, ℕ, zero, suc, ◌+◌, Bool, true, false, ◌==◌, cond, IsTrue, List, [], ◌∷◌, map, length, slice_get, Option, Some, None, is_some, refl, sym, ap, ◌∙◌, subst, arith, Vec, Global}
 use mathlib.Core.List.{IsPrefix}
 use Rattle.std.specs.Prelude.{IfSome, option_map}
 use Rattle.std.specs.List.{position_from}
@@ -8,7 +8,7 @@ use Rattle.std.specs.List.{AllZip}
 use Rattle.pc_terms.specs.declared.problems.Problem.{Problem}
 use Rattle.pc_outside.specs.Outside.{Rose}
 use Rattle.ask_history.specs.Sources.{Bytes, Sources}
-use Rattle.ask_history.specs.Journal.{accepted, all_settled, findings, is_closed, is_close}
+use Rattle.ask_history.specs.Journal.{findings, is_closed, is_close}
 use Rattle.ask_history.specs.Legal.{is_legal}
 use Rattle.ask_history.specs.declared.answers.Answer.{Answer}
 use Rattle.ask_history.specs.declared.calls.Call.{Call}
@@ -24,15 +24,14 @@ use Rattle.report_hub.specs.Telling.{Finding}
 use Rattle.counting_word.specs.declared.view.Entry.{Entry}
 use Rattle.counting_word.specs.declared.view.View.{View}
 use Rattle.counting_word.specs.History.{journal_of, entries_by, engine_number, are_made}
-use Rattle.counting_word.specs.Calls.{Knows, Meets}
+use Rattle.counting_word.specs.Calls.{Meets}
 use Rattle.desk_driver.specs.Drives.{findings_in}
 use Rattle.session_threads.specs.Clients.{Each, HasPlayed, IsMet, scripts_played, answers_played}
-use Rattle.session_threads.specs.Ended.{IsShut, HaveEnded, entries_of}
+use Rattle.session_threads.specs.Ended.{IsShut, entries_of}
 use Rattle.session_threads.specs.Left.{IsOutcomeOf, OutcomeFrom, outcome_at}
 use Rattle.session_threads.specs.Parts.{AllEnded, ShutAt}
-use Rattle.session_threads.specs.Passes.{IsNew, Meeting}
 use Rattle.session_threads.specs.Served.{HasServed}
-use Rattle.session_threads.specs.Sessions.{Comes, IsSession, RoseIfUnbegun, problems_in}
+use Rattle.session_threads.specs.Sessions.{Comes, IsSession, RoseIfUnbegun}
 use Rattle.session_threads.specs.declared.clients.Played.{Played}
 use Rattle.session_threads.specs.declared.closing.Ended.{Ended}
 use Rattle.session_threads.specs.declared.outcome.Outcome.{Outcome}

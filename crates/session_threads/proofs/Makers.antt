@@ -1,7 +1,6 @@
 -- Who made an entry of a whole history, and what it then is.
-use Rattle.std.proofs.Common.{◌≡◌, ◌⊎◌, inl, inr, ℕ, ◌+◌, ◌<◌, Bool, true, false, true≢false, ◌||◌, ◌==◌, nat_lt, cond, IsTrue, List, [], ◌∷◌, ◌++◌, map, length, slice_get, Option, Some, None, refl, sym, ap, ◌∙◌, subst, arith, append_assoc, append-nil, ◌≤◌, ◌≢◌}
+use Rattle.std.proofs.Common.{◌≡◌, ◌⊎◌, inl, inr, ℕ, ◌+◌, ◌<◌, Bool, true, false, ◌||◌, ◌==◌, nat_lt, cond, IsTrue, List, [], ◌∷◌, ◌++◌, map, length, slice_get, Option, Some, None, refl, sym, ap, ◌∙◌, subst, arith, append_assoc, append-nil, ◌≤◌, ◌≢◌}
 use mathlib.Core.List.{IsPrefix}
-use Rattle.std.specs.List.{list_all}
 use Rattle.std.specs.Prelude.{option_map, IfSome, unwrap_or}
 use Rattle.std.proofs.lemmas.Bool.{and_parts, cases_eq, eq-eqb, eqb-true}
 use Rattle.std.proofs.lemmas.Bool.Decides.{nat_tests}
@@ -21,14 +20,12 @@ use Rattle.ask_history.specs.declared.events.Mark.{Mark}
 use Rattle.ask_history.specs.declared.events.Mark.TheVariants as mark
 use Rattle.ask_history.specs.declared.script.Script.{Script}
 use Rattle.client_scripts.specs.History.{Entry, IsLater}
-use Rattle.client_scripts.specs.History as clients
 use Rattle.client_scripts.specs.Runs as runs
 use Rattle.client_scripts.specs.Runs.{Runs, Played as HasPlayedScript, AllPlayed, IsServants}
 use Rattle.client_scripts.proofs.Whole.{right_in}
 use Rattle.counting_word.specs.declared.view.Entry.{Entry as Noted}
 use Rattle.counting_word.specs.History.{journal_of, entries_by, engine_number, is_made, are_made}
 use Rattle.counting_word.proofs.Beginnings.{begins-trans}
-use Rattle.counting_word.proofs.Counting.{journal_of-append}
 use Rattle.ask_desk.specs.Answers.{found_answer, callers_find, closing}
 use Rattle.desk_driver.specs.Drives as drives
 use Rattle.desk_clients.specs.Seen.{seen_entry}
@@ -36,7 +33,7 @@ use Rattle.desk_clients.proofs.Seeing.{seen_journal, none_by}
 use Rattle.session_threads.specs.Clients.{Each, HasPlayed, scripts_played}
 use Rattle.session_threads.specs.Ended.{entries_of}
 use Rattle.session_threads.specs.declared.clients.Played.{Played}
-use Rattle.session_threads.proofs.Splits.{IsBehind, in_first, IsInSecond, in_second, value_at, none_of, rest_has_none, first_has_none}
+use Rattle.session_threads.proofs.Splits.{in_first, in_second, value_at, none_of, rest_has_none, first_has_none}
 
 -- ---- a shutdown
 

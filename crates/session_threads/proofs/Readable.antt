@@ -1,7 +1,7 @@
 -- Scripts that were read may be played.
-use Rattle.std.proofs.Common.{◌≡◌, ◌⊎◌, inl, inr, ℕ, zero, suc, ◌+◌, ◌^◌, ◌<◌, ◌≤◌, Bool, true, false, not, ◌&&◌, cond, nat_eq, nat_lt, nat_le, count_by, List, [], ◌∷◌, ◌++◌, length, map, slice_get, Option, Some, None, Ok, Err, refl, sym, ap, ◌∙◌, subst, arith}
+use Rattle.std.proofs.Common.{◌≡◌, ◌⊎◌, inl, inr, ℕ, zero, suc, ◌^◌, ◌<◌, ◌≤◌, Bool, true, false, not, ◌&&◌, cond, nat_eq, nat_lt, nat_le, List, [], ◌∷◌, ◌++◌, length, map, slice_get, Option, Some, None, Ok, refl, sym, ap, ◌∙◌, subst, arith}
 use Rattle.std.specs.Prelude.{option_map}
-use Rattle.std.specs.List.{list_all, list_any, AllByRecursion}
+use Rattle.std.specs.List.{list_all, list_any}
 use Rattle.std.proofs.lemmas.Bool.Decides.{nat_tests}
 use Rattle.std.proofs.lemmas.List.{length-append, length-map}
 use Rattle.std.proofs.lemmas.List.Concat.{flat_map-append}
@@ -13,9 +13,9 @@ use Rattle.ask_history.specs.declared.script.Line.{Line}
 use Rattle.ask_history.specs.declared.script.Order.{Order}
 use Rattle.ask_history.specs.declared.script.Order.TheVariants as order
 use Rattle.ask_history.specs.declared.script.Script.{Script}
-use Rattle.client_scripts.specs.Lines.{AreMeant, AllMayPost, MayPost}
-use Rattle.script_text.specs.Grammar.{AreLines, IsScript}
-use Rattle.script_text.specs.Standing.{cancelled, is_call_above, is_call_line, is_meant, is_placed, is_written, may_stand}
+use Rattle.client_scripts.specs.Lines.{MayPost}
+use Rattle.script_text.specs.Grammar.{AreLines}
+use Rattle.script_text.specs.Standing.{cancelled, is_meant, is_placed, is_written, may_stand}
 use Rattle.script_text.specs.Texts.{line_with, order_with, script_with}
 use Rattle.script_text.specs.Words.{lines_of, is_number}
 use Rattle.script_text.specs.declared.kinds.ScriptKind.TheVariants as kind
@@ -24,7 +24,7 @@ use Rattle.session_input.specs.Clients.{clients_reading, named_scripts, scripts_
 use Rattle.session_input.specs.Counts.{passed_by}
 use Rattle.session_input.specs.Input.{unless_passed}
 use Rattle.session_input.specs.Limits.{most_of}
-use Rattle.session_input.specs.Reads.{Reading, Refuses, then_reads, ComesTo}
+use Rattle.session_input.specs.Reads.{Refuses, then_reads, ComesTo}
 use Rattle.session_input.specs.Sources.{pairs_of, pairs_in, lines_in, names_files, order_names_files, sources_reading}
 use Rattle.session_input.specs.declared.limits.Limit.{Limit}
 use Rattle.session_input.specs.declared.limits.Limit.TheVariants as limit

@@ -1,11 +1,10 @@
 -- The passes of a session, as they are made.
-use Rattle.std.proofs.Common.{◌≡◌, ℕ, zero, suc, ◌+◌, ◌<◌, List, [], ◌∷◌, ◌++◌, length, map, slice_get, Option, Some, None, refl, sym, ap, ◌∙◌, subst}
+use Rattle.std.proofs.Common.{◌≡◌, ℕ, zero, suc, ◌+◌, List, [], ◌∷◌, ◌++◌, length, slice_get, Some, sym, ap, ◌∙◌, subst}
 use Rattle.std.specs.Prelude.{option_map}
 use Rattle.std.proofs.lemmas.List.{length_push, length-map, map-append}
 use Rattle.std.proofs.lemmas.Option.{slice_get-map}
 use Rattle.ask_history.specs.declared.script.Script.{Script}
 use Rattle.counting_word.specs.declared.view.View.{View}
-use Rattle.counting_word.specs.History.{engine_number}
 use Rattle.counting_word.specs.Views.{loaded, client_of, after_client}
 use Rattle.session_threads.specs.Clients.{Each, CanPlayAll, AreReady, scripts_to_play}
 use Rattle.session_threads.specs.Passes.{IsNew, IsEngines}

@@ -1,11 +1,11 @@
 -- The answers that clients were handed are the replies of the journal.
-use Rattle.std.proofs.Common.{◌≡◌, ℕ, zero, suc, ◌+◌, ◌<◌, Bool, true, false, true≢false, ◌||◌, ◌&&◌, ◌==◌, not, cond, IsTrue, is_some, List, [], ◌∷◌, ◌++◌, map, length, slice_get, option_and_then, Option, Some, None, refl, sym, ap, ◌∙◌, subst, arith, add-zero}
-use Rattle.std.proofs.lemmas.Bool.{and_parts, eqb-true, eq-eqb}
+use Rattle.std.proofs.Common.{◌≡◌, ℕ, zero, suc, ◌+◌, Bool, true, false, true≢false, ◌||◌, ◌&&◌, ◌==◌, cond, IsTrue, List, [], ◌∷◌, ◌++◌, length, slice_get, option_and_then, Option, Some, None, refl, sym, ap, ◌∙◌, subst, arith, add-zero}
+use Rattle.std.proofs.lemmas.Bool.{eqb-true}
 use Rattle.std.proofs.lemmas.Bool.Decides.{nat_tests}
 use Rattle.std.proofs.lemmas.List.Folds.{list_any-append}
 use Rattle.std.specs.Option.{option_or}
 use Rattle.ask_history.specs.Sources.{Sources}
-use Rattle.ask_history.specs.Journal.{is_settled, settles, onto, reply, reply_in, reply_step, replies_to, ticket_of, ticket_under}
+use Rattle.ask_history.specs.Journal.{is_settled, settles, onto, reply, reply_in, reply_step, replies_to, ticket_of}
 use Rattle.ask_history.specs.Legal.{may_follow, is_legal}
 use Rattle.ask_history.specs.Walk.{walk}
 use Rattle.ask_history.specs.declared.answers.Answer.{Answer}
@@ -22,13 +22,13 @@ use Rattle.ask_history.proofs.Accepted.{settled_once}
 use Rattle.ask_history.proofs.Pushes.{list_any-push}
 use Rattle.journal_laws.proofs.Tickets.{may_first}
 use Rattle.client_scripts.specs.Lines.{call_under, call_lines}
-use Rattle.client_scripts.specs.Clients.{call_in, calls_of}
+use Rattle.client_scripts.specs.Clients.{calls_of}
 use Rattle.counting_word.specs.declared.view.Entry.{Entry}
 use Rattle.counting_word.specs.History.{journal_of}
 use Rattle.counting_word.proofs.Counting.{journal_of-append}
 use Rattle.ask_desk.specs.Answers.{answer_of as kept_answer, found_answer}
-use Rattle.session_threads.specs.Sessions.{ticket_in, tickets_of, answers_to, rows_from}
-use Rattle.std.proofs.Common.{append_assoc, append-nil}
+use Rattle.session_threads.specs.Sessions.{tickets_of, answers_to, rows_from}
+use Rattle.std.proofs.Common.{append_assoc}
 
 -- each settling has its reply for an answer
 abbrev pub AreAnswered : (Sources → Call → Answer) → List Entry → List Entry → Type 0

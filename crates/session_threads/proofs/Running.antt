@@ -1,10 +1,8 @@
 -- A run of clients from its words to its line for the user.
-use Rattle.std.proofs.Common.{◌≡◌, ◌⊎◌, inl, inr, ℕ, ◌≤◌, ◌||◌, Bool, true, false, IsTrue, List, [], ◌∷◌, ◌++◌, Option, Some, None, Ok, Err, refl, sym, ap, ◌∙◌, subst}
+use Rattle.std.proofs.Common.{◌≡◌, ◌⊎◌, inl, inr, ℕ, ◌≤◌, ◌||◌, Bool, true, false, List, [], ◌∷◌, ◌++◌, Option, Some, None, Ok, refl, sym, ap, ◌∙◌, subst}
 use Rattle.std.specs.Prelude.{⊤}
-use Rattle.std.specs.List.{list_any}
 use Rattle.pc_terms.specs.Bytes.{Bytes}
 use Rattle.pc_terms.specs.declared.problems.Problem.{Problem}
-use Rattle.pc_outside.specs.Outside.{Rose}
 use Rattle.ask_history.specs.Sources.{Sources}
 use Rattle.ask_history.specs.Journal.{findings, is_close, is_closed}
 use Rattle.ask_history.specs.declared.answers.Answer.{Answer}
@@ -17,7 +15,7 @@ use Rattle.report_hub.specs.Telling.{ReporterState}
 use Rattle.report_hub.specs.Told.{WasToldMost}
 use Rattle.report_hub.proofs.Reports.{WasToldMost-none}
 use Rattle.session_input.specs.Clients.{clients_reading}
-use Rattle.session_input.specs.Reads.{ComesTo, told as told_by}
+use Rattle.session_input.specs.Reads.{ComesTo}
 use Rattle.session_input.specs.declared.refusal.Refusal.{Refusal}
 use Rattle.session_input.specs.declared.refusal.Refusal.TheVariants as refusal
 use Rattle.session_input.proofs.ClientLemmas.{fault_names_clients}
@@ -36,7 +34,7 @@ use Rattle.session_run.proofs.SessionLemmas.{grew_by_nothing}
 use Rattle.transcript.specs.Transcript.{session_text}
 use Rattle.session_threads.specs.Owed.{Seen, IsClientsJournal, printed, Completes, IsClientsRun}
 use Rattle.session_threads.specs.Reading.{AreReadAs, HaveInput, HasSpawnFault, NamesClientFile}
-use Rattle.session_threads.specs.Sessions.{IsSession, RoseIfUnbegun, rows_of, problems_in}
+use Rattle.session_threads.specs.Sessions.{IsSession, RoseIfUnbegun}
 use Rattle.session_threads.specs.Written.{EndsAs, WroteAs}
 use Rattle.session_threads.specs.declared.outcome.Outcome.{Outcome}
 use Rattle.session_threads.specs.declared.outcome.Outcome.TheVariants as outcome

@@ -1,18 +1,13 @@
 -- A whole history is that of clients that play their scripts, and their answers are its replies.
-use Rattle.std.proofs.Common.{◌≡◌, ℕ, zero, suc, ◌+◌, ◌<◌, true, IsTrue, List, [], ◌∷◌, ◌++◌, map, length, slice_get, option_and_then, Option, Some, None, refl, sym, ap, ◌∙◌, subst, arith}
+use Rattle.std.proofs.Common.{◌≡◌, ℕ, zero, suc, ◌+◌, true, IsTrue, List, [], ◌∷◌, ◌++◌, map, length, slice_get, option_and_then, Option, Some, None, refl, sym, ap, ◌∙◌, subst, arith}
 use Rattle.std.specs.Prelude.{IfSome, option_map}
-use Rattle.std.specs.List.{AllZip}
 use Rattle.std.proofs.lemmas.Option.{slice_get-map}
-use Rattle.std.proofs.lemmas.List.{length-map}
 use Rattle.pc_terms.specs.declared.problems.Problem.{Problem}
 use Rattle.ask_history.specs.Sources.{Bytes, Sources}
 use Rattle.ask_history.specs.Journal.{is_closed, reply_in, ticket_of}
 use Rattle.ask_history.specs.Legal.{is_legal}
 use Rattle.ask_history.specs.declared.answers.Answer.{Answer}
 use Rattle.ask_history.specs.declared.calls.Call.{Call}
-use Rattle.ask_history.specs.declared.events.Event.{Event}
-use Rattle.ask_history.specs.declared.events.Event.TheVariants.{Settle}
-use Rattle.ask_history.specs.declared.events.Mark.{Mark}
 use Rattle.ask_history.specs.declared.script.Script.{Script}
 use Rattle.client_scripts.specs.Clients.{calls_of}
 use Rattle.client_scripts.specs.History.{Entry, IsLater}
@@ -23,15 +18,14 @@ use Rattle.client_scripts.proofs.Histories.{more_answer, more_calls, more_ticket
 use Rattle.client_scripts.proofs.Whole.{of_scripts, same_all}
 use Rattle.counting_word.specs.declared.view.Entry.{Entry as Noted}
 use Rattle.counting_word.specs.History.{journal_of}
-use Rattle.ask_desk.specs.Answers.{answer_of as kept_answer, found_answer}
 use Rattle.desk_clients.specs.Seen.{seen_entry}
 use Rattle.desk_clients.proofs.Seeing.{seen_journal, seen_answer}
-use Rattle.session_threads.specs.Clients.{HasPlayed, scripts_played, answers_played, IsMet}
+use Rattle.session_threads.specs.Clients.{HasPlayed, scripts_played, answers_played}
 use Rattle.session_threads.specs.Sessions.{answers_to, rows_of, tickets_of}
 use Rattle.session_threads.specs.declared.clients.Played.{Played}
 use Rattle.session_threads.proofs.Makers.{IsWhole, all_played, seen_at, settled_with, own_later}
 use Rattle.session_threads.proofs.Replies.{AreAnswered, kept_reply, lines_tagged, ticket_at, tickets_counted, replies_are, rows_are, AreTagged}
-use Rattle.std.proofs.Common.{append_assoc, append-nil}
+use Rattle.std.proofs.Common.{append_assoc}
 
 -- ---- lists that are told of by rows
 
