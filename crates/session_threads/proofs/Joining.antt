@@ -87,21 +87,6 @@ module _ {B : Type 0} where
         answered = subst (λ n. IfSome played.answers (AreAnswers n (map seen_entry played.pass.seen))) mine answered;
       }
 
-  -- ---- a meeting
-
-  pub have_met : (old new : View) (client client' : Played B) → Meets old client.pass new client'.pass → client'.script ≡ client.script → client'.answers ≡ client.answers → HaveMet old new client client'
-  have_met old new client client' meets script answers = record {
-    first = record { begins = meets.first.begins; name = meets.first.name; knows = λ known. meets.first.knows };
-    second = record {
-      script = script;
-      answers = answers;
-      pass = record { begins = meets.second.begins; name = meets.second.name; knows = λ known. meets.second.knows };
-      knows = meets.second.knows;
-      learned = meets.second.learns;
-      told = meets.first.learns;
-    };
-  }
-
   -- ---- a round of meetings
 
   -- Of clients so many met a pass that had seen `first` before the round and has now seen `last`; the others are as they were.
