@@ -15,7 +15,6 @@ use Rattle.work_queue.proofs.EventIndexes.{list_any-index_of}
 use Rattle.counting_word.specs.declared.view.Entry.{Entry}
 use Rattle.counting_word.specs.declared.view.Name.{Name}
 use Rattle.counting_word.specs.declared.view.View.{View}
-use Rattle.counting_word.specs.Calls.{Meets}
 use Rattle.counting_word.specs.History.{journal_of}
 use Rattle.counting_word.proofs.Beginnings.{begins_itself, begins-trans}
 use Rattle.ask_desk.specs.Answers.{callers_find, closing, entries_for}

@@ -137,6 +137,7 @@ pub(crate) fn left_played<B: Room, N: Engine>(
 }
 
 /// Shuts a session down that no client began, and gives the journal index of the shutdown.
+#[tactic(auto, using(crate::proofs::Leaving::shut_at))]
 pub(crate) fn shut_unbegun<B: Room, R: Wait>(rt: &R, desk: &Desk<B>, spare: &mut Pass<B>) -> u64
     ensures shut { ShutAt spare.new result }
 {
