@@ -15,7 +15,6 @@ use Rattle.work_queue.proofs.EventIndexes.{list_any-index_of}
 use Rattle.counting_word.specs.declared.view.Entry.{Entry}
 use Rattle.counting_word.specs.declared.view.Name.{Name}
 use Rattle.counting_word.specs.declared.view.View.{View}
-use Rattle.counting_word.specs.Calls.{Meets}
 use Rattle.counting_word.specs.History.{journal_of}
 use Rattle.counting_word.proofs.Beginnings.{begins_itself, begins-trans}
 use Rattle.ask_desk.specs.Answers.{callers_find, closing, entries_for}
@@ -86,21 +85,6 @@ module _ {B : Type 0} where
         ended = subst (λ n. IfSome played.answers (λ answers. HasEnded n played.script.lines (map seen_entry played.pass.seen))) mine ended;
         answered = subst (λ n. IfSome played.answers (AreAnswers n (map seen_entry played.pass.seen))) mine answered;
       }
-
-  -- ---- a meeting
-
-  pub have_met : (old new : View) (client client' : Played B) → Meets old client.pass new client'.pass → client'.script ≡ client.script → client'.answers ≡ client.answers → HaveMet old new client client'
-  have_met old new client client' meets script answers = record {
-    first = record { begins = meets.first.begins; name = meets.first.name; knows = λ known. meets.first.knows };
-    second = record {
-      script = script;
-      answers = answers;
-      pass = record { begins = meets.second.begins; name = meets.second.name; knows = λ known. meets.second.knows };
-      knows = meets.second.knows;
-      learned = meets.second.learns;
-      told = meets.first.learns;
-    };
-  }
 
   -- ---- a round of meetings
 
