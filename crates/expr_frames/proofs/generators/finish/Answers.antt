@@ -5,4 +5,4 @@ use Rattle.expr_frames.proofs.generators.finish.Goals as goal
 pub returns : goal.returns
 returns c =
     subst (λ parted. IfOk c.with_generator.result (λ now. now ≡ spec.with_generator c.args.generators parted))
-      c.in_ok-with_last.ensures c.with_generator.ensures
+    c.in_ok-with_last.ensures c.with_generator.ensures

@@ -16,12 +16,12 @@ use Rattle.expr_steps.proofs.steps.step.Goals as goal
 -- where the token is no more of a type
 untaken : (s : State) (x : Lexeme) → type_takes s.context.limit s.context.tail (spec.type_symbol x) ≡ false
     → spec.decided_step s.frames (spec.decided s.context (symbol_of x.kind x.word) x.place.before) (symbol_of x.kind x.word) x
-      ≡ step s x
+    ≡ step s x
 unfolding step
 untaken s x e =
     sym (ap (λ takes. if takes then Some (spec.type_step s.frames s.context x)
-      else spec.decided_step s.frames (spec.decided s.context (symbol_of x.kind x.word) x.place.before)
-        (symbol_of x.kind x.word) x) e)
+    else spec.decided_step s.frames (spec.decided s.context (symbol_of x.kind x.word) x.place.before)
+    (symbol_of x.kind x.word) x) e)
 
 stepped : (s : State) (x : Lexeme) (c : Context) (y : Symbol)
     → type_takes s.context.limit s.context.tail (spec.type_symbol x) ≡ false
@@ -36,13 +36,13 @@ pub returns-in_ok-context : goal.returns-in_ok-context
 returns-in_ok-context c =
     let x : Lexeme = lexeme_with c.args.token c.args.word.now in
     let k : c.read_symbol-symbol.result ≡ symbol_of x.kind x.word =
-      c.read_symbol-symbol.ensures ∙ ap (λ (w : Bytes). symbol_of c.args.token.kind w) c.as_bytes.ensures.value in
+    c.read_symbol-symbol.ensures ∙ ap (λ (w : Bytes). symbol_of c.args.token.kind w) c.as_bytes.ensures.value in
     let t : c.read_symbol-type_symbol.result ≡ spec.type_symbol x =
-      c.read_symbol-type_symbol.ensures
-      ∙ ap (λ (w : Bytes). type_symbols.symbol_of c.args.token.kind w) c.as_bytes-2.ensures.value in
+    c.read_symbol-type_symbol.ensures
+    ∙ ap (λ (w : Bytes). type_symbols.symbol_of c.args.token.kind w) c.as_bytes-2.ensures.value in
     let e : type_takes c.args.state.context.limit c.args.state.context.tail (spec.type_symbol x) ≡ false =
-      sym (ap (λ (y : TypeSymbol). type_takes c.args.state.context.limit c.args.state.context.tail y) t)
-      ∙ sym c.type_takes.ensures ∙ c.if-type_takes.false in
+    sym (ap (λ (y : TypeSymbol). type_takes c.args.state.context.limit c.args.state.context.tail y) t)
+    ∙ sym c.type_takes.ensures ∙ c.if-type_takes.false in
     subst (λ (next : Option State). IfOk c.decided_step.result (λ now. now ≡ next))
-      (stepped c.args.state x c.in_ok-context.context c.read_symbol-symbol.result e c.in_ok-context.ensures k)
-      c.decided_step.ensures
+    (stepped c.args.state x c.in_ok-context.context c.read_symbol-symbol.result e c.in_ok-context.ensures k)
+    c.decided_step.ensures
