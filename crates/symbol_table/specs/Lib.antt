@@ -1,0 +1,16 @@
+pub mod Companions
+pub mod Definitions
+pub mod Entering
+pub mod Found
+pub mod Groups
+pub mod Items
+pub mod Made
+pub mod Names
+pub mod Opened
+pub mod Order
+pub mod Owners
+pub mod Problems
+pub mod Sites
+pub mod Sources
+pub mod Symbols
+pub mod Tables
