@@ -5,16 +5,22 @@ use Rattle.std.specs.Str.{bytes_eq}
 use Rattle.pc_terms.specs.Bytes.{Bytes}
 use Rattle.scan_tokens.specs.Scanned.{scanned}
 use Rattle.source_grammar.specs.Lexemes.{Lexeme, lexemes}
-use Rattle.parse_parts.specs.Parting.{IsTypeAt}
+use Rattle.source_grammar.specs.Patterns.{IsPattern}
+use Rattle.source_grammar.specs.Reading.{Production}
+use Rattle.source_grammar.specs.Types.{IsType}
+use Rattle.parse_parts.specs.Parting.{IsPartAt}
 use Rattle.parse_parts.specs.declared.parts.Part.{Part}
 use Rattle.parse_parts.specs.declared.parts.Part.TheVariants.{Read, NotHere, TooHigh}
 use Rattle.layer_bench.specs.declared.layers.Layer.{Layer}
-use Rattle.layer_bench.specs.declared.layers.Layer.TheVariants.{Scan, Types, Locate}
+use Rattle.layer_bench.specs.declared.layers.Layer.TheVariants.{Scan, Parts, Locate}
+use Rattle.layer_bench.specs.declared.layers.Reader.{Reader}
+use Rattle.layer_bench.specs.declared.layers.Reader.TheVariants.{Types, Patterns}
 
 abbrev pub layer_named : Bytes → Option Layer
 layer_named word =
     if bytes_eq word (codes "scan") then Some Scan
-    else (if bytes_eq word (codes "types") then Some Types else (if bytes_eq word (codes "locate") then Some Locate else None))
+    else (if bytes_eq word (codes "types") then Some (Parts Types)
+    else (if bytes_eq word (codes "patterns") then Some (Parts Patterns) else (if bytes_eq word (codes "locate") then Some Locate else None)))
 
 abbrev pub layer_word : Option Bytes → Option Layer
 layer_word None = None
@@ -25,13 +31,18 @@ end_of (Read tree behind) = behind
 end_of (NotHere bad) = bad
 end_of (TooHigh behind) = behind
 
--- where ends what is read at the first of these tokens
-pub record IsTypeEnd (ts : List Lexeme) (end : ℕ) : Type 0 where
+-- what this reader reads
+abbrev pub production : Reader → Production
+production Types = IsType
+production Patterns = IsPattern
+
+-- where ends what is read of this production at the first of these tokens
+pub record IsEnd (Is : Production) (ts : List Lexeme) (end : ℕ) : Type 0 where
   pub part : Part
-  pub read : IsTypeAt ts 0 part
+  pub read : IsPartAt Is ts 0 part
   pub ends : end ≡ end_of part
 
 abbrev pub IsCount : Layer → Bytes → Option ℕ → Type 0
 IsCount Scan text count = count ≡ Some (length (scanned text).tokens)
-IsCount Types text count = IfSome count (IsTypeEnd (lexemes (scanned text)))
+IsCount (Parts reader) text count = IfSome count (IsEnd (production reader) (lexemes (scanned text)))
 IsCount Locate text count = Unit {0}

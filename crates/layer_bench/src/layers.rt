@@ -5,20 +5,29 @@ ghost use Rattle.pc_terms.specs.Bytes.{max_source_bytes};
 ghost use Rattle.positioned_trees.specs.Located.{IsPlaced, located};
 ghost use Rattle.scan_tokens.specs.Scanned.{scanned};
 ghost use Rattle.source_grammar.specs.Lexemes.{lexemes};
-ghost use Rattle.layer_bench.specs.Counts.{IsTypeEnd, IsCount};
+ghost use Rattle.parse_parts.specs.Parting.{IsPartAt};
+ghost use Rattle.layer_bench.specs.Counts.{IsCount, IsEnd, production};
 
 use parse_parts::{Part, parse_type};
+use parse_patterns::parse_pattern;
 use pc_terms::{NoMemory, Row};
 use positioned_trees::{SourceUnit, is_placed, locate};
 use scan_tokens::{Tokens, scan};
 use std::alloc::Global;
 
+/// What reads a part of a source.
+#[derive(Clone, Copy, Debug)]
+pub enum Reader {
+    Types,
+    Patterns,
+}
+
 #[derive(Clone, Copy, Debug)]
 pub enum Layer {
     /// The scanner, with the newline rule.
     Scan,
-    /// The reader of types, at the first token.
-    Types,
+    /// A reader of parts, at the first token.
+    Parts(Reader),
     /// The tree at the middle of a text that is one type.
     Locate,
 }
@@ -45,25 +54,36 @@ fn tokens_of(alloc: Global, text: &str) -> Result<Tokens, NoMemory>
     scan(alloc, text)
 }
 
-fn end_once(alloc: Global, tokens: &Tokens) -> Result<u32, NoMemory>
+fn part_once(alloc: Global, reader: Reader, tokens: &Tokens) -> Result<Part, NoMemory>
     requires short { length tokens.now.text ≤ max_source_bytes }
     requires scanned { tokens.now ≡ scanned tokens.now.text }
-    ensures { IfOk result (IsTypeEnd (lexemes tokens.now)) }
+    ensures { IfOk result (IsPartAt (production reader) (lexemes tokens.now) 0) }
 {
-    match parse_type(alloc, tokens, 0)? {
+    match reader {
+        Reader::Types => parse_type(alloc, tokens, 0),
+        Reader::Patterns => parse_pattern(alloc, tokens, 0),
+    }
+}
+
+fn end_once(alloc: Global, reader: Reader, tokens: &Tokens) -> Result<u32, NoMemory>
+    requires short { length tokens.now.text ≤ max_source_bytes }
+    requires scanned { tokens.now ≡ scanned tokens.now.text }
+    ensures { IfOk result (IsEnd (production reader) (lexemes tokens.now)) }
+{
+    match part_once(alloc, reader, tokens)? {
         Part::Read(_, end) | Part::NotHere(end) | Part::TooHigh(end) => Ok(end),
     }
 }
 
-// The number of the token at which the type ends, or that no type admits.
-fn type_end(alloc: Global, text: &str, times: u32) -> Result<usize, NoMemory>
+// The number of the token at which the part ends, or that no part admits.
+fn part_end(alloc: Global, reader: Reader, text: &str, times: u32) -> Result<usize, NoMemory>
     requires { length text.now ≤ max_source_bytes }
-    ensures { IfOk result (IsTypeEnd (lexemes (scanned text.now))) }
+    ensures { IfOk result (IsEnd (production reader) (lexemes (scanned text.now))) }
 {
     let tokens = tokens_of(alloc, text)?;
-    let mut end = end_once(alloc, &tokens)?;
+    let mut end = end_once(alloc, reader, &tokens)?;
     for _ in 1..times {
-        end = end_once(alloc, &tokens)?;
+        end = end_once(alloc, reader, &tokens)?;
     }
     Ok(end as usize)
 }
@@ -110,7 +130,7 @@ pub fn count_of(
 {
     match layer {
         Layer::Scan => Ok(Some(token_count(alloc, text, times)?)),
-        Layer::Types => Ok(Some(type_end(alloc, text, times)?)),
+        Layer::Parts(reader) => Ok(Some(part_end(alloc, reader, text, times)?)),
         Layer::Locate => middle_tree(alloc, text, times),
     }
 }

@@ -4,7 +4,7 @@ ghost use Rattle.std.specs.Option.{option_map};
 ghost use Rattle.std.specs.Prelude.{string_bytes, slice_get, ◌≡◌, ◌≤◌, IfOk, OnOk, length};
 ghost use Rattle.layer_bench.specs.Counts.{layer_named, layer_word};
 
-use crate::layers::Layer;
+use crate::layers::{Layer, Reader};
 use crate::refused::Refused;
 use std::alloc::Global;
 
@@ -21,7 +21,8 @@ fn layer_of(word: &str) -> Option<Layer>
 {
     match word {
         "scan" => Some(Layer::Scan),
-        "types" => Some(Layer::Types),
+        "types" => Some(Layer::Parts(Reader::Types)),
+        "patterns" => Some(Layer::Parts(Reader::Patterns)),
         "locate" => Some(Layer::Locate),
         _ => None,
     }

@@ -6,67 +6,86 @@ use std::test::Fail;
 
 // variables, `_`, literals and paths (SLS 8.1.1, 8.1.4, 8.1.5)
 static SINGLE: [Row; 21] = [
-    ("▮_▮", "0 Wild 0-1"),
-    ("▮x▮", "0 Bind x 0-1"),
-    ("▮_x▮", "0 Bind _x 0-2"),
-    ("▮X▮", "0 StablePat X 0-1"),
-    ("▮`x`▮", "0 StablePat x 0-3"),
-    ("▮+▮", "0 StablePat + 0-1"),
-    ("▮a.b▮", "0 StablePat b@2-3 0-3 [1 Ident a 0-1]"),
-    ("▮a▮.", "0 Bind a 0-1"),
-    ("▮x▮.type", "0 Bind x 0-1"),
-    ("▮1▮ =>", "0 LitPat 1 0-1"),
-    ("▮0x1fL▮", "0 LitPat 0x1fL 0-5"),
-    ("▮'a'▮", "0 LitPat 'a' 0-3"),
-    ("▮\"a b\"▮", "0 LitPat \"a b\" 0-5"),
-    ("▮true▮", "0 LitPat true 0-4"),
-    ("▮null▮", "0 LitPat null 0-4"),
-    ("▮-1▮", "0 LitPat -1 0-2"),
-    ("▮- 1L▮", "0 LitPat -1L 0-4"),
-    ("▮-▮\n1", "0 StablePat - 0-1"),
-    ("▮-▮ 'a'", "0 StablePat - 0-1"),
-    ("▮`-`▮ 1", "0 StablePat - 0-3"),
-    ("▮x▮ 1", "0 Bind x 0-1"),
+    ("▮_▮", "0 Wild ▮_▮"),
+    ("▮x▮", "0 Bind x ▮x▮"),
+    ("▮_x▮", "0 Bind _x ▮_x▮"),
+    ("▮X▮", "0 StablePat X ▮X▮"),
+    ("▮`x`▮", "0 StablePat x ▮`x`▮"),
+    ("▮+▮", "0 StablePat + ▮+▮"),
+    ("▮a.b▮", "0 StablePat b ▮a.b▮ @ a.▮b▮ [1 Ident a ▮a▮.b]"),
+    ("▮a▮.", "0 Bind a ▮a▮."),
+    ("▮x▮.type", "0 Bind x ▮x▮.type"),
+    ("▮1▮ =>", "0 LitPat 1 ▮1▮ =>"),
+    ("▮0x1fL▮", "0 LitPat 0x1fL ▮0x1fL▮"),
+    ("▮'a'▮", "0 LitPat 'a' ▮'a'▮"),
+    ("▮\"a b\"▮", "0 LitPat \"a b\" ▮\"a b\"▮"),
+    ("▮true▮", "0 LitPat true ▮true▮"),
+    ("▮null▮", "0 LitPat null ▮null▮"),
+    ("▮-1▮", "0 LitPat -1 ▮-1▮"),
+    ("▮- 1L▮", "0 LitPat -1L ▮- 1L▮"),
+    ("▮-▮\n1", "0 StablePat - ▮-▮\n1"),
+    ("▮-▮ 'a'", "0 StablePat - ▮-▮ 'a'"),
+    ("▮`-`▮ 1", "0 StablePat - ▮`-`▮ 1"),
+    ("▮x▮ 1", "0 Bind x ▮x▮ 1"),
 ];
 
 // constructor patterns, parentheses and tuples (SLS 8.1.6, 8.1.7)
 static BRACKETS: [Row; 19] = [
-    ("▮A()▮", "0 CtorPat A@0-1 0-3"),
-    ("▮A(b)▮", "0 CtorPat A@0-1 0-4 [1 Bind b 2-3]"),
-    ("▮a(b)▮", "0 CtorPat a@0-1 0-4 [1 Bind b 2-3]"),
+    ("▮A()▮", "0 CtorPat A ▮A()▮ @ ▮A▮()"),
+    ("▮A(b)▮", "0 CtorPat A ▮A(b)▮ @ ▮A▮(b) [1 Bind b A(▮b▮)]"),
+    ("▮a(b)▮", "0 CtorPat a ▮a(b)▮ @ ▮a▮(b) [1 Bind b a(▮b▮)]"),
     (
         "▮a.B(c, _, 1, d)▮",
-        "0 CtorPat B@2-3 0-15 [1 Ident a 0-1, 2 Bind c 4-5, 3 Wild 7-8, 4 LitPat 1 10-11, 5 Bind d 13-14]",
+        "0 CtorPat B ▮a.B(c, _, 1, d)▮ @ a.▮B▮(c, _, 1, d) [\
+             1 Ident a ▮a▮.B(c, _, 1, d), \
+             2 Bind c a.B(▮c▮, _, 1, d), \
+             3 Wild a.B(c, ▮_▮, 1, d), \
+             4 LitPat 1 a.B(c, _, ▮1▮, d), \
+             5 Bind d a.B(c, _, 1, ▮d▮)]",
     ),
-    ("▮A(b)▮(c)", "0 CtorPat A@0-1 0-4 [1 Bind b 2-3]"),
-    ("▮A▮(b,)", "0 StablePat A 0-1"),
-    ("▮A▮\n(b)", "0 StablePat A 0-1"),
-    ("▮A▮(b", "0 StablePat A 0-1"),
-    ("▮()▮", "0 LitPat () 0-2"),
-    ("▮(a)▮", "0 Bind a 1-2"),
-    ("▮((a))▮", "0 Bind a 2-3"),
-    ("▮(a)▮(b)", "0 Bind a 1-2"),
-    ("▮(a)▮.b", "0 Bind a 1-2"),
+    (
+        "▮A(b)▮(c)",
+        "0 CtorPat A ▮A(b)▮(c) @ ▮A▮(b)(c) [1 Bind b A(▮b▮)(c)]",
+    ),
+    ("▮A▮(b,)", "0 StablePat A ▮A▮(b,)"),
+    ("▮A▮\n(b)", "0 StablePat A ▮A▮\n(b)"),
+    ("▮A▮(b", "0 StablePat A ▮A▮(b"),
+    ("▮()▮", "0 LitPat () ▮()▮"),
+    ("▮(a)▮", "0 Bind a (▮a▮)"),
+    ("▮((a))▮", "0 Bind a ((▮a▮))"),
+    ("▮(a)▮(b)", "0 Bind a (▮a▮)(b)"),
+    ("▮(a)▮.b", "0 Bind a (▮a▮).b"),
     (
         "▮(a, B)▮",
-        "0 TuplePat 0-6 [1 Bind a 1-2, 2 StablePat B 4-5]",
+        "0 TuplePat ▮(a, B)▮ [1 Bind a (▮a▮, B), 2 StablePat B (a, ▮B▮)]",
     ),
     (
         "▮(a, b, c)▮",
-        "0 TuplePat 0-9 [1 Bind a 1-2, 2 Bind b 4-5, 3 Bind c 7-8]",
+        "0 TuplePat ▮(a, b, c)▮ [\
+             1 Bind a (▮a▮, b, c), \
+             2 Bind b (a, ▮b▮, c), \
+             3 Bind c (a, b, ▮c▮)]",
     ),
     ("▮(a, b, c▮, d)", "not here"),
     (
         "▮((a, b), ())▮",
-        "0 TuplePat 0-12 [1 TuplePat 1-7 [2 Bind a 2-3, 3 Bind b 5-6], 4 LitPat () 9-11]",
+        "0 TuplePat ▮((a, b), ())▮ [\
+             1 TuplePat (▮(a, b)▮, ()) [\
+                 2 Bind a ((▮a▮, b), ()), \
+                 3 Bind b ((a, ▮b▮), ())], \
+             4 LitPat () ((a, b), ▮()▮)]",
     ),
     (
         "▮(\na\n|\nb\n)▮",
-        "0 AltPat 2-7 [1 Bind a 2-3, 2 Bind b 6-7]",
+        "0 AltPat (\n▮a\n|\nb▮\n) [\
+             1 Bind a (\n▮a▮\n|\nb\n), \
+             2 Bind b (\na\n|\n▮b▮\n)]",
     ),
     (
         "▮A(\nb\n,\nc\n)▮",
-        "0 CtorPat A@0-1 0-10 [1 Bind b 3-4, 2 Bind c 7-8]",
+        "0 CtorPat A ▮A(\nb\n,\nc\n)▮ @ ▮A▮(\nb\n,\nc\n) [\
+             1 Bind b A(\n▮b▮\n,\nc\n), \
+             2 Bind c A(\nb\n,\n▮c▮\n)]",
     ),
 ];
 
@@ -74,55 +93,94 @@ static BRACKETS: [Row; 19] = [
 static INFIX: [Row; 15] = [
     (
         "▮a :: b :: Nil▮",
-        "0 CtorPat ::@2-4 0-13 [1 Bind a 0-1, 2 CtorPat ::@7-9 5-13 [3 Bind b 5-6, 4 StablePat Nil 10-13]]",
+        "0 CtorPat :: ▮a :: b :: Nil▮ @ a ▮::▮ b :: Nil [\
+             1 Bind a ▮a▮ :: b :: Nil, \
+             2 CtorPat :: a :: ▮b :: Nil▮ @ a :: b ▮::▮ Nil [\
+                 3 Bind b a :: ▮b▮ :: Nil, \
+                 4 StablePat Nil a :: b :: ▮Nil▮]]",
     ),
     (
         "▮a - b - 1▮",
-        "0 CtorPat -@6-7 0-9 [1 CtorPat -@2-3 0-5 [2 Bind a 0-1, 3 Bind b 4-5], 4 LitPat 1 8-9]",
+        "0 CtorPat - ▮a - b - 1▮ @ a - b ▮-▮ 1 [\
+             1 CtorPat - ▮a - b▮ - 1 @ a ▮-▮ b - 1 [\
+                 2 Bind a ▮a▮ - b - 1, \
+                 3 Bind b a - ▮b▮ - 1], \
+             4 LitPat 1 a - b - ▮1▮]",
     ),
     (
         "▮a + b * c▮",
-        "0 CtorPat +@2-3 0-9 [1 Bind a 0-1, 2 CtorPat *@6-7 4-9 [3 Bind b 4-5, 4 Bind c 8-9]]",
+        "0 CtorPat + ▮a + b * c▮ @ a ▮+▮ b * c [\
+             1 Bind a ▮a▮ + b * c, \
+             2 CtorPat * a + ▮b * c▮ @ a + b ▮*▮ c [\
+                 3 Bind b a + ▮b▮ * c, \
+                 4 Bind c a + b * ▮c▮]]",
     ),
     (
         "▮a * b + c▮",
-        "0 CtorPat +@6-7 0-9 [1 CtorPat *@2-3 0-5 [2 Bind a 0-1, 3 Bind b 4-5], 4 Bind c 8-9]",
+        "0 CtorPat + ▮a * b + c▮ @ a * b ▮+▮ c [\
+             1 CtorPat * ▮a * b▮ + c @ a ▮*▮ b + c [\
+                 2 Bind a ▮a▮ * b + c, \
+                 3 Bind b a * ▮b▮ + c], \
+             4 Bind c a * b + ▮c▮]",
     ),
     (
         "▮(a) :: (b)▮",
-        "0 CtorPat ::@4-6 0-10 [1 Bind a 1-2, 2 Bind b 8-9]",
+        "0 CtorPat :: ▮(a) :: (b)▮ @ (a) ▮::▮ (b) [\
+             1 Bind a (▮a▮) :: (b), \
+             2 Bind b (a) :: (▮b▮)]",
     ),
     (
         "▮a and `b` or -1▮",
-        "0 CtorPat or@10-12 0-15 [1 CtorPat and@2-5 0-9 [2 Bind a 0-1, 3 StablePat b 6-9], 4 LitPat -1 13-15]",
+        "0 CtorPat or ▮a and `b` or -1▮ @ a and `b` ▮or▮ -1 [\
+             1 CtorPat and ▮a and `b`▮ or -1 @ a ▮and▮ `b` or -1 [\
+                 2 Bind a ▮a▮ and `b` or -1, \
+                 3 StablePat b a and ▮`b`▮ or -1], \
+             4 LitPat -1 a and `b` or ▮-1▮]",
     ),
     (
         "▮a + b▮ +: c",
-        "0 CtorPat +@2-3 0-5 [1 Bind a 0-1, 2 Bind b 4-5]",
+        "0 CtorPat + ▮a + b▮ +: c @ a ▮+▮ b +: c [\
+             1 Bind a ▮a▮ + b +: c, \
+             2 Bind b a + ▮b▮ +: c]",
     ),
     (
         "▮a +: b▮ + c",
-        "0 CtorPat +:@2-4 0-6 [1 Bind a 0-1, 2 Bind b 5-6]",
+        "0 CtorPat +: ▮a +: b▮ + c @ a ▮+:▮ b + c [\
+             1 Bind a ▮a▮ +: b + c, \
+             2 Bind b a +: ▮b▮ + c]",
     ),
     (
         "▮a + b * c▮ +: d",
-        "0 CtorPat +@2-3 0-9 [1 Bind a 0-1, 2 CtorPat *@6-7 4-9 [3 Bind b 4-5, 4 Bind c 8-9]]",
+        "0 CtorPat + ▮a + b * c▮ +: d @ a ▮+▮ b * c +: d [\
+             1 Bind a ▮a▮ + b * c +: d, \
+             2 CtorPat * a + ▮b * c▮ +: d @ a + b ▮*▮ c +: d [\
+                 3 Bind b a + ▮b▮ * c +: d, \
+                 4 Bind c a + b * ▮c▮ +: d]]",
     ),
     (
         "▮a + b & c +: d▮",
-        "0 CtorPat &@6-7 0-14 [1 CtorPat +@2-3 0-5 [2 Bind a 0-1, 3 Bind b 4-5], \
-             4 CtorPat +:@10-12 8-14 [5 Bind c 8-9, 6 Bind d 13-14]]",
+        "0 CtorPat & ▮a + b & c +: d▮ @ a + b ▮&▮ c +: d [\
+             1 CtorPat + ▮a + b▮ & c +: d @ a ▮+▮ b & c +: d [\
+                 2 Bind a ▮a▮ + b & c +: d, \
+                 3 Bind b a + ▮b▮ & c +: d], \
+             4 CtorPat +: a + b & ▮c +: d▮ @ a + b & c ▮+:▮ d [\
+                 5 Bind c a + b & ▮c▮ +: d, \
+                 6 Bind d a + b & c +: ▮d▮]]",
     ),
     (
         "▮a ::\nb▮",
-        "0 CtorPat ::@2-4 0-6 [1 Bind a 0-1, 2 Bind b 5-6]",
+        "0 CtorPat :: ▮a ::\nb▮ @ a ▮::▮\nb [\
+             1 Bind a ▮a▮ ::\nb, \
+             2 Bind b a ::\n▮b▮]",
     ),
-    ("▮a▮ ::\n\nb", "0 Bind a 0-1"),
-    ("▮a▮\n:: b", "0 Bind a 0-1"),
-    ("▮a▮ ::", "0 Bind a 0-1"),
+    ("▮a▮ ::\n\nb", "0 Bind a ▮a▮ ::\n\nb"),
+    ("▮a▮\n:: b", "0 Bind a ▮a▮\n:: b"),
+    ("▮a▮ ::", "0 Bind a ▮a▮ ::"),
     (
         "▮a `|` b▮",
-        "0 CtorPat |@2-5 0-7 [1 Bind a 0-1, 2 Bind b 6-7]",
+        "0 CtorPat | ▮a `|` b▮ @ a ▮`|`▮ b [\
+             1 Bind a ▮a▮ `|` b, \
+             2 Bind b a `|` ▮b▮]",
     ),
 ];
 
@@ -130,82 +188,145 @@ static INFIX: [Row; 15] = [
 static BOUND: [Row; 14] = [
     (
         "▮x @ Some(y)▮",
-        "0 Bind x@0-1 0-11 [1 CtorPat Some@4-8 4-11 [2 Bind y 9-10]]",
+        "0 Bind x ▮x @ Some(y)▮ @ ▮x▮ @ Some(y) [\
+             1 CtorPat Some x @ ▮Some(y)▮ @ x @ ▮Some▮(y) [\
+                 2 Bind y x @ Some(▮y▮)]]",
     ),
     (
         "▮x @ a :: b▮",
-        "0 Bind x@0-1 0-10 [1 CtorPat ::@6-8 4-10 [2 Bind a 4-5, 3 Bind b 9-10]]",
+        "0 Bind x ▮x @ a :: b▮ @ ▮x▮ @ a :: b [\
+             1 CtorPat :: x @ ▮a :: b▮ @ x @ a ▮::▮ b [\
+                 2 Bind a x @ ▮a▮ :: b, \
+                 3 Bind b x @ a :: ▮b▮]]",
     ),
-    ("▮x @ (y)▮", "0 Bind x@0-1 0-7 [1 Bind y 5-6]"),
-    ("▮x @ y▮: A", "0 Bind x@0-1 0-5 [1 Bind y 4-5]"),
-    ("▮x @ y▮ @ z", "0 Bind x@0-1 0-5 [1 Bind y 4-5]"),
-    ("▮X▮ @ y", "0 StablePat X 0-1"),
-    ("▮`x`▮ @ y", "0 StablePat x 0-3"),
-    ("▮x▮\n@ y", "0 Bind x 0-1"),
-    ("▮a | b▮", "0 AltPat 0-5 [1 Bind a 0-1, 2 Bind b 4-5]"),
+    (
+        "▮x @ (y)▮",
+        "0 Bind x ▮x @ (y)▮ @ ▮x▮ @ (y) [1 Bind y x @ (▮y▮)]",
+    ),
+    (
+        "▮x @ y▮: A",
+        "0 Bind x ▮x @ y▮: A @ ▮x▮ @ y: A [1 Bind y x @ ▮y▮: A]",
+    ),
+    (
+        "▮x @ y▮ @ z",
+        "0 Bind x ▮x @ y▮ @ z @ ▮x▮ @ y @ z [1 Bind y x @ ▮y▮ @ z]",
+    ),
+    ("▮X▮ @ y", "0 StablePat X ▮X▮ @ y"),
+    ("▮`x`▮ @ y", "0 StablePat x ▮`x`▮ @ y"),
+    ("▮x▮\n@ y", "0 Bind x ▮x▮\n@ y"),
+    (
+        "▮a | b▮",
+        "0 AltPat ▮a | b▮ [1 Bind a ▮a▮ | b, 2 Bind b a | ▮b▮]",
+    ),
     (
         "▮A | 1 | x @ _▮ =>",
-        "0 AltPat 0-13 [1 StablePat A 0-1, 2 LitPat 1 4-5, 3 Bind x@8-9 8-13 [4 Wild 12-13]]",
+        "0 AltPat ▮A | 1 | x @ _▮ => [\
+             1 StablePat A ▮A▮ | 1 | x @ _ =>, \
+             2 LitPat 1 A | ▮1▮ | x @ _ =>, \
+             3 Bind x A | 1 | ▮x @ _▮ => @ A | 1 | ▮x▮ @ _ => [\
+                 4 Wild A | 1 | x @ ▮_▮ =>]]",
     ),
     (
         "▮a :: b | c▮",
-        "0 AltPat 0-10 [1 CtorPat ::@2-4 0-6 [2 Bind a 0-1, 3 Bind b 5-6], 4 Bind c 9-10]",
+        "0 AltPat ▮a :: b | c▮ [\
+             1 CtorPat :: ▮a :: b▮ | c @ a ▮::▮ b | c [\
+                 2 Bind a ▮a▮ :: b | c, \
+                 3 Bind b a :: ▮b▮ | c], \
+             4 Bind c a :: b | ▮c▮]",
     ),
     (
         "▮| | |▮",
-        "0 AltPat 0-5 [1 StablePat | 0-1, 2 StablePat | 4-5]",
+        "0 AltPat ▮| | |▮ [1 StablePat | ▮|▮ | |, 2 StablePat | | | ▮|▮]",
     ),
-    ("▮a▮ |\nb", "0 Bind a 0-1"),
-    ("▮a▮ | =>", "0 Bind a 0-1"),
+    ("▮a▮ |\nb", "0 Bind a ▮a▮ |\nb"),
+    ("▮a▮ | =>", "0 Bind a ▮a▮ | =>"),
 ];
 
 // `x: T` (SLS 8.1.2)
 static TYPED: [Row; 17] = [
-    ("▮x: T▮", "0 TypedPat x@0-1 0-4 [1 TypeIdent T 3-4]"),
-    ("▮_: T▮", "0 TypedPat _@0-1 0-4 [1 TypeIdent T 3-4]"),
-    ("▮X▮: T", "0 StablePat X 0-1"),
-    ("▮`x`▮: T", "0 StablePat x 0-3"),
-    ("▮x: T▮ => y", "0 TypedPat x@0-1 0-4 [1 TypeIdent T 3-4]"),
+    (
+        "▮x: T▮",
+        "0 TypedPat x ▮x: T▮ @ ▮x▮: T [1 TypeIdent T x: ▮T▮]",
+    ),
+    (
+        "▮_: T▮",
+        "0 TypedPat _ ▮_: T▮ @ ▮_▮: T [1 TypeIdent T _: ▮T▮]",
+    ),
+    ("▮X▮: T", "0 StablePat X ▮X▮: T"),
+    ("▮`x`▮: T", "0 StablePat x ▮`x`▮: T"),
+    (
+        "▮x: T▮ => y",
+        "0 TypedPat x ▮x: T▮ => y @ ▮x▮: T => y [1 TypeIdent T x: ▮T▮ => y]",
+    ),
     (
         "▮x: a.type▮",
-        "0 TypedPat x@0-1 0-9 [1 Singleton a@3-4 3-9 [2 Ident a 3-4]]",
+        "0 TypedPat x ▮x: a.type▮ @ ▮x▮: a.type [\
+             1 Singleton a x: ▮a.type▮ @ x: ▮a▮.type [\
+                 2 Ident a x: ▮a▮.type]]",
     ),
     (
         "▮x: A[B => C]▮ =>",
-        "0 TypedPat x@0-1 0-12 [1 AppliedType A@3-4 3-12 [2 TypeIdent A 3-4, \
-             3 FunType 5-11 [4 TypeIdent B 5-6, 5 TypeIdent C 10-11]]]",
+        "0 TypedPat x ▮x: A[B => C]▮ => @ ▮x▮: A[B => C] => [\
+             1 AppliedType A x: ▮A[B => C]▮ => @ x: ▮A▮[B => C] => [\
+                 2 TypeIdent A x: ▮A▮[B => C] =>, \
+                 3 FunType x: A[▮B => C▮] => [\
+                     4 TypeIdent B x: A[▮B▮ => C] =>, \
+                     5 TypeIdent C x: A[B => ▮C▮] =>]]]",
     ),
     (
         "▮x: (A => B)▮ =>",
-        "0 TypedPat x@0-1 0-11 [1 FunType 4-10 [2 TypeIdent A 4-5, 3 TypeIdent B 9-10]]",
+        "0 TypedPat x ▮x: (A => B)▮ => @ ▮x▮: (A => B) => [\
+             1 FunType x: (▮A => B▮) => [\
+                 2 TypeIdent A x: (▮A▮ => B) =>, \
+                 3 TypeIdent B x: (A => ▮B▮) =>]]",
     ),
     (
         "▮x: (A, B)▮ => C",
-        "0 TypedPat x@0-1 0-9 [1 TupleType 3-9 [2 TypeIdent A 4-5, 3 TypeIdent B 7-8]]",
+        "0 TypedPat x ▮x: (A, B)▮ => C @ ▮x▮: (A, B) => C [\
+             1 TupleType x: ▮(A, B)▮ => C [\
+                 2 TypeIdent A x: (▮A▮, B) => C, \
+                 3 TypeIdent B x: (A, ▮B▮) => C]]",
     ),
-    ("▮x▮: () => A", "0 Bind x 0-1"),
-    ("▮x▮: (A, B, C, D) => E", "0 Bind x 0-1"),
+    ("▮x▮: () => A", "0 Bind x ▮x▮: () => A"),
+    ("▮x▮: (A, B, C, D) => E", "0 Bind x ▮x▮: (A, B, C, D) => E"),
     (
         "▮x: (() => A)▮",
-        "0 TypedPat x@0-1 0-12 [1 FunType 4-11 [2 TypeIdent A 10-11]]",
+        "0 TypedPat x ▮x: (() => A)▮ @ ▮x▮: (() => A) [\
+             1 FunType x: (▮() => A▮) [\
+                 2 TypeIdent A x: (() => ▮A▮)]]",
     ),
     (
         "▮x: A | _: B▮",
-        "0 AltPat 0-11 [1 TypedPat x@0-1 0-4 [2 TypeIdent A 3-4], 3 TypedPat _@7-8 7-11 [4 TypeIdent B 10-11]]",
+        "0 AltPat ▮x: A | _: B▮ [\
+             1 TypedPat x ▮x: A▮ | _: B @ ▮x▮: A | _: B [\
+                 2 TypeIdent A x: ▮A▮ | _: B], \
+             3 TypedPat _ x: A | ▮_: B▮ @ x: A | ▮_▮: B [\
+                 4 TypeIdent B x: A | _: ▮B▮]]",
     ),
     (
         "▮x: | | y▮",
-        "0 AltPat 0-8 [1 TypedPat x@0-1 0-4 [2 TypeIdent | 3-4], 3 Bind y 7-8]",
+        "0 AltPat ▮x: | | y▮ [\
+             1 TypedPat x ▮x: |▮ | y @ ▮x▮: | | y [\
+                 2 TypeIdent | x: ▮|▮ | y], \
+             3 Bind y x: | | ▮y▮]",
     ),
     (
         "▮(x: A, _)▮",
-        "0 TuplePat 0-9 [1 TypedPat x@1-2 1-5 [2 TypeIdent A 4-5], 3 Wild 7-8]",
+        "0 TuplePat ▮(x: A, _)▮ [\
+             1 TypedPat x (▮x: A▮, _) @ (▮x▮: A, _) [\
+                 2 TypeIdent A (x: ▮A▮, _)], \
+             3 Wild (x: A, ▮_▮)]",
     ),
     (
         "▮A(x: B)▮",
-        "0 CtorPat A@0-1 0-7 [1 TypedPat x@2-3 2-6 [2 TypeIdent B 5-6]]",
+        "0 CtorPat A ▮A(x: B)▮ @ ▮A▮(x: B) [\
+             1 TypedPat x A(▮x: B▮) @ A(▮x▮: B) [\
+                 2 TypeIdent B A(x: ▮B▮)]]",
     ),
-    ("▮x: A▮ :: B", "0 TypedPat x@0-1 0-4 [1 TypeIdent A 3-4]"),
+    (
+        "▮x: A▮ :: B",
+        "0 TypedPat x ▮x: A▮ :: B @ ▮x▮: A :: B [1 TypeIdent A x: ▮A▮ :: B]",
+    ),
 ];
 
 // the first token that no pattern admits

@@ -6,7 +6,7 @@ ghost use Rattle.std.specs.Prelude.{◌≡◌, ◌≤◌, length, IfOk};
 
 use parse_parts::{Part, parse_type};
 use parse_patterns::parse_pattern;
-use pc_terms::{MAX_SOURCE_BYTES, NoMemory};
+use pc_terms::{MAX_SOURCE_BYTES, NoMemory, Span};
 use positioned_trees::{Detail, Tree};
 use scan_tokens::{Tokens, scan};
 use std::alloc::{AllocError, Global};
@@ -14,8 +14,8 @@ use std::process::Abort;
 use std::test::Fail;
 
 /// A text with two marks ▮, and what is read at the first mark. The second mark stands behind the part, or before
-/// the first token that no part admits. A tree is written as its number, its kind, its label, the span of the label
-/// where that is not the tree's, its span, and its kids between brackets.
+/// the first token that no part admits. A tree is written as its number, its kind, its label, the text with its span
+/// between two marks, where the label has another span, `@` and the text with that span, and its kids between brackets.
 pub type Row = (&'static str, &'static str);
 
 // The tokens of a text, and the numbers of those behind the two marks.
@@ -61,36 +61,43 @@ fn cut_at_marks(rt: &(impl Abort + AllocGlobal), text: &str) -> Result<Marked, F
     Ok(Marked { tokens, at, behind })
 }
 
-fn push_label(shown: &mut String, tree: &Tree) -> Result<(), AllocError> {
-    let (label, place) = (tree.label.as_str(), tree.label_span);
+// The text with a span of it between two marks.
+fn push_span(shown: &mut String, text: &str, span: Span) -> Result<(), AllocError> {
+    let (start, end) = (span.start as usize, span.end as usize);
+    let front = text.get(..start).unwrap_or("no start");
+    let part = text.get(start..end).unwrap_or("no part");
+    let back = text.get(end..).unwrap_or("no end");
+    write!(shown, " {front}▮{part}▮{back}")
+}
+
+fn push_node(shown: &mut String, text: &str, tree: &Tree) -> Result<(), AllocError> {
+    let (id, kind, label) = (tree.id, tree.kind, tree.label.as_str());
+    write!(shown, "{id} {kind:?}")?;
     if !label.is_empty() {
         write!(shown, " {label}")?;
     }
-    if place != tree.span {
-        let (start, end) = (place.start, place.end);
-        write!(shown, "@{start}-{end}")?;
+    push_span(shown, text, tree.span)?;
+    if tree.label_span != tree.span {
+        shown.push_str(" @")?;
+        push_span(shown, text, tree.label_span)?;
+    }
+    if !tree.opaque || !matches!(tree.detail, Detail::Plain) {
+        shown.push_str(" not plain")?;
     }
     Ok(())
 }
 
 // A tree as far as it is no higher than this.
-fn push_tree(shown: &mut String, tree: &Tree, room: u32) -> Result<(), AllocError> {
+fn push_tree(shown: &mut String, text: &str, tree: &Tree, room: u32) -> Result<(), AllocError> {
     if room == 0 {
         shown.push_str("..")?;
         return Ok(());
     }
-    let (id, kind) = (tree.id, tree.kind);
-    write!(shown, "{id} {kind:?}")?;
-    push_label(shown, tree)?;
-    let (start, end) = (tree.span.start, tree.span.end);
-    write!(shown, " {start}-{end}")?;
-    if !tree.opaque || !matches!(tree.detail, Detail::Plain) {
-        shown.push_str(" not plain")?;
-    }
+    push_node(shown, text, tree)?;
     let mut first = true;
     for kid in tree.kids.as_slice() {
         shown.push_str(if first { " [" } else { ", " })?;
-        push_tree(shown, kid, room - 1)?;
+        push_tree(shown, text, kid, room - 1)?;
         first = false;
     }
     if !first {
@@ -99,11 +106,11 @@ fn push_tree(shown: &mut String, tree: &Tree, room: u32) -> Result<(), AllocErro
     Ok(())
 }
 
-// What a part is, without its end.
-fn shown(alloc: Global, part: &Part) -> Result<String, AllocError> {
+// What a part of a text is, without its end.
+fn shown(alloc: Global, text: &str, part: &Part) -> Result<String, AllocError> {
     let mut shown = String::new(alloc);
     match part {
-        Part::Read(tree, _) => push_tree(&mut shown, tree, 16)?,
+        Part::Read(tree, _) => push_tree(&mut shown, text, tree, 16)?,
         Part::NotHere(_) => shown.push_str("not here")?,
         Part::TooHigh(_) => shown.push_str("too high")?,
     }
@@ -111,17 +118,26 @@ fn shown(alloc: Global, part: &Part) -> Result<String, AllocError> {
 }
 
 // Whether a part is the one of the row, and ends at the second mark.
-fn agree(rt: &(impl Abort + AllocGlobal), row: &Row, behind: u32, part: &Part) -> Result<(), Fail> {
+fn agree(
+    rt: &(impl Abort + AllocGlobal),
+    row: &Row,
+    marked: &Marked,
+    part: &Part,
+) -> Result<(), Fail> {
     let (text, expected) = *row;
     assert_eq!(rt;
-        shown(rt.alloc(), part)?.as_str(),
+        shown(rt.alloc(), marked.tokens.text.as_str(), part)?.as_str(),
         expected,
         "at the first mark of {text:?}"
     );
     let end = match part {
         Part::Read(_, end) | Part::NotHere(end) | Part::TooHigh(end) => *end,
     };
-    assert_eq!(rt; end, behind, "the token at the second mark of {text:?}");
+    assert_eq!(rt;
+        end,
+        marked.behind,
+        "the token at the second mark of {text:?}"
+    );
     Ok(())
 }
 
@@ -146,9 +162,9 @@ fn parse(alloc: Global, kind: Kind, tokens: &Tokens, at: u32) -> Result<Part, No
 /// Reads the part of each row.
 pub fn read_all(rt: &(impl Abort + AllocGlobal), kind: Kind, rows: &[Row]) -> Result<(), Fail> {
     for row in rows {
-        let text = cut_at_marks(rt, row.0)?;
-        let part = parse(rt.alloc(), kind, &text.tokens, text.at)?;
-        agree(rt, row, text.behind, &part)?;
+        let marked = cut_at_marks(rt, row.0)?;
+        let part = parse(rt.alloc(), kind, &marked.tokens, marked.at)?;
+        agree(rt, row, &marked, &part)?;
     }
     Ok(())
 }

@@ -6,39 +6,57 @@ use std::test::Fail;
 
 // a name, and a name behind a path (SLS 3.1, 3.2.1, 3.2.3)
 static NAMES: [Row; 10] = [
-    ("▮A▮", "0 TypeIdent A 0-1"),
-    ("val x: ▮Int▮ = 1", "0 TypeIdent Int 7-10"),
-    ("▮::▮", "0 TypeIdent :: 0-2"),
-    ("▮`a b`▮", "0 TypeIdent a b 0-5"),
-    ("▮a.B▮", "0 TypeSelect B@2-3 0-3 [1 Ident a 0-1]"),
+    ("▮A▮", "0 TypeIdent A ▮A▮"),
+    ("val x: ▮Int▮ = 1", "0 TypeIdent Int val x: ▮Int▮ = 1"),
+    ("▮::▮", "0 TypeIdent :: ▮::▮"),
+    ("▮`a b`▮", "0 TypeIdent a b ▮`a b`▮"),
+    ("▮a.B▮", "0 TypeSelect B ▮a.B▮ @ a.▮B▮ [1 Ident a ▮a▮.B]"),
     (
         "▮a . b . C▮ d",
-        "0 TypeSelect C@8-9 0-9 [1 Select b@4-5 0-5 [2 Ident a 0-1]]",
+        "0 TypeSelect C ▮a . b . C▮ d @ a . b . ▮C▮ d [\
+             1 Select b ▮a . b▮ . C d @ a . ▮b▮ . C d [\
+                 2 Ident a ▮a▮ . b . C d]]",
     ),
-    ("▮a\n.B▮", "0 TypeSelect B@3-4 0-4 [1 Ident a 0-1]"),
+    (
+        "▮a\n.B▮",
+        "0 TypeSelect B ▮a\n.B▮ @ a\n.▮B▮ [1 Ident a ▮a▮\n.B]",
+    ),
     (
         "▮`a`.`type`▮",
-        "0 TypeSelect type@4-10 0-10 [1 Ident a 0-3]",
+        "0 TypeSelect type ▮`a`.`type`▮ @ `a`.▮`type`▮ [1 Ident a ▮`a`▮.`type`]",
     ),
-    ("▮a▮.", "0 TypeIdent a 0-1"),
-    ("▮a▮.1", "0 TypeIdent a 0-1"),
+    ("▮a▮.", "0 TypeIdent a ▮a▮."),
+    ("▮a▮.1", "0 TypeIdent a ▮a▮.1"),
 ];
 
 // the type of a path (SLS 3.2.1)
 static SINGLETONS: [Row; 6] = [
-    ("▮a.type▮", "0 Singleton a@0-1 0-6 [1 Ident a 0-1]"),
+    (
+        "▮a.type▮",
+        "0 Singleton a ▮a.type▮ @ ▮a▮.type [1 Ident a ▮a▮.type]",
+    ),
     (
         "▮a.b.type▮",
-        "0 Singleton b@2-3 0-8 [1 Select b@2-3 0-3 [2 Ident a 0-1]]",
+        "0 Singleton b ▮a.b.type▮ @ a.▮b▮.type [\
+             1 Select b ▮a.b▮.type @ a.▮b▮.type [\
+                 2 Ident a ▮a▮.b.type]]",
     ),
     (
         "▮a.b.type▮.c",
-        "0 Singleton b@2-3 0-8 [1 Select b@2-3 0-3 [2 Ident a 0-1]]",
+        "0 Singleton b ▮a.b.type▮.c @ a.▮b▮.type.c [\
+             1 Select b ▮a.b▮.type.c @ a.▮b▮.type.c [\
+                 2 Ident a ▮a▮.b.type.c]]",
     ),
-    ("▮a.type▮[B]", "0 Singleton a@0-1 0-6 [1 Ident a 0-1]"),
+    (
+        "▮a.type▮[B]",
+        "0 Singleton a ▮a.type▮[B] @ ▮a▮.type[B] [1 Ident a ▮a▮.type[B]]",
+    ),
     (
         "▮a.type => B▮",
-        "0 FunType 0-11 [1 Singleton a@0-1 0-6 [2 Ident a 0-1], 3 TypeIdent B 10-11]",
+        "0 FunType ▮a.type => B▮ [\
+             1 Singleton a ▮a.type▮ => B @ ▮a▮.type => B [\
+                 2 Ident a ▮a▮.type => B], \
+             3 TypeIdent B a.type => ▮B▮]",
     ),
     ("▮▮this.type", "not here"),
 ];
@@ -47,133 +65,211 @@ static SINGLETONS: [Row; 6] = [
 static ARGUMENTS: [Row; 10] = [
     (
         "▮A[B]▮",
-        "0 AppliedType A@0-1 0-4 [1 TypeIdent A 0-1, 2 TypeIdent B 2-3]",
+        "0 AppliedType A ▮A[B]▮ @ ▮A▮[B] [\
+             1 TypeIdent A ▮A▮[B], \
+             2 TypeIdent B A[▮B▮]]",
     ),
     (
         "▮A[B, C]▮",
-        "0 AppliedType A@0-1 0-7 [1 TypeIdent A 0-1, 2 TypeIdent B 2-3, 3 TypeIdent C 5-6]",
+        "0 AppliedType A ▮A[B, C]▮ @ ▮A▮[B, C] [\
+             1 TypeIdent A ▮A▮[B, C], \
+             2 TypeIdent B A[▮B▮, C], \
+             3 TypeIdent C A[B, ▮C▮]]",
     ),
     (
         "▮A[B[C]]▮",
-        "0 AppliedType A@0-1 0-7 [1 TypeIdent A 0-1, 2 AppliedType B@2-3 2-6 [3 TypeIdent B 2-3, 4 TypeIdent C 4-5]]",
+        "0 AppliedType A ▮A[B[C]]▮ @ ▮A▮[B[C]] [\
+             1 TypeIdent A ▮A▮[B[C]], \
+             2 AppliedType B A[▮B[C]▮] @ A[▮B▮[C]] [\
+                 3 TypeIdent B A[▮B▮[C]], \
+                 4 TypeIdent C A[B[▮C▮]]]]",
     ),
     (
         "▮a.B[C]▮",
-        "0 AppliedType B@2-3 0-6 [1 TypeSelect B@2-3 0-3 [2 Ident a 0-1], 3 TypeIdent C 4-5]",
+        "0 AppliedType B ▮a.B[C]▮ @ a.▮B▮[C] [\
+             1 TypeSelect B ▮a.B▮[C] @ a.▮B▮[C] [\
+                 2 Ident a ▮a▮.B[C]], \
+             3 TypeIdent C a.B[▮C▮]]",
     ),
     (
         "▮A\n[(B, C) => D]▮",
-        "0 AppliedType A@0-1 0-15 [1 TypeIdent A 0-1, 2 FunType 3-14 [3 TypeIdent B 4-5, \
-             4 TypeIdent C 7-8, 5 TypeIdent D 13-14]]",
+        "0 AppliedType A ▮A\n[(B, C) => D]▮ @ ▮A▮\n[(B, C) => D] [\
+             1 TypeIdent A ▮A▮\n[(B, C) => D], \
+             2 FunType A\n[▮(B, C) => D▮] [\
+                 3 TypeIdent B A\n[(▮B▮, C) => D], \
+                 4 TypeIdent C A\n[(B, ▮C▮) => D], \
+                 5 TypeIdent D A\n[(B, C) => ▮D▮]]]",
     ),
-    ("▮A▮[]", "0 TypeIdent A 0-1"),
-    ("▮A▮[B", "0 TypeIdent A 0-1"),
-    ("▮A▮[B,]", "0 TypeIdent A 0-1"),
+    ("▮A▮[]", "0 TypeIdent A ▮A▮[]"),
+    ("▮A▮[B", "0 TypeIdent A ▮A▮[B"),
+    ("▮A▮[B,]", "0 TypeIdent A ▮A▮[B,]"),
     (
         "▮A[B]▮[C]",
-        "0 AppliedType A@0-1 0-4 [1 TypeIdent A 0-1, 2 TypeIdent B 2-3]",
+        "0 AppliedType A ▮A[B]▮[C] @ ▮A▮[B][C] [\
+             1 TypeIdent A ▮A▮[B][C], \
+             2 TypeIdent B A[▮B▮][C]]",
     ),
     (
         "▮A[B]▮.C",
-        "0 AppliedType A@0-1 0-4 [1 TypeIdent A 0-1, 2 TypeIdent B 2-3]",
+        "0 AppliedType A ▮A[B]▮.C @ ▮A▮[B].C [\
+             1 TypeIdent A ▮A▮[B].C, \
+             2 TypeIdent B A[▮B▮].C]",
     ),
 ];
 
 // types in parentheses, and tuples of two and three (SLS 3.2.5)
 static PARENTHESES: [Row; 10] = [
-    ("▮(A)▮", "0 TypeIdent A 1-2"),
-    ("▮((A))▮", "0 TypeIdent A 2-3"),
+    ("▮(A)▮", "0 TypeIdent A (▮A▮)"),
+    ("▮((A))▮", "0 TypeIdent A ((▮A▮))"),
     (
         "▮(A, B)▮",
-        "0 TupleType 0-6 [1 TypeIdent A 1-2, 2 TypeIdent B 4-5]",
+        "0 TupleType ▮(A, B)▮ [1 TypeIdent A (▮A▮, B), 2 TypeIdent B (A, ▮B▮)]",
     ),
     (
         "▮(A, B, C)▮",
-        "0 TupleType 0-9 [1 TypeIdent A 1-2, 2 TypeIdent B 4-5, 3 TypeIdent C 7-8]",
+        "0 TupleType ▮(A, B, C)▮ [\
+             1 TypeIdent A (▮A▮, B, C), \
+             2 TypeIdent B (A, ▮B▮, C), \
+             3 TypeIdent C (A, B, ▮C▮)]",
     ),
     (
         "▮((A, B), (C))▮",
-        "0 TupleType 0-13 [1 TupleType 1-7 [2 TypeIdent A 2-3, 3 TypeIdent B 5-6], 4 TypeIdent C 10-11]",
+        "0 TupleType ▮((A, B), (C))▮ [\
+             1 TupleType (▮(A, B)▮, (C)) [\
+                 2 TypeIdent A ((▮A▮, B), (C)), \
+                 3 TypeIdent B ((A, ▮B▮), (C))], \
+             4 TypeIdent C ((A, B), (▮C▮))]",
     ),
     ("▮(A, B, C, D)▮", "not here"),
     ("▮()▮ A", "not here"),
-    ("▮(A)▮[B]", "0 TypeIdent A 1-2"),
-    ("▮(A)▮.B", "0 TypeIdent A 1-2"),
-    ("▮(\nA\n)▮", "0 TypeIdent A 2-3"),
+    ("▮(A)▮[B]", "0 TypeIdent A (▮A▮)[B]"),
+    ("▮(A)▮.B", "0 TypeIdent A (▮A▮).B"),
+    ("▮(\nA\n)▮", "0 TypeIdent A (\n▮A▮\n)"),
 ];
 
 // functions (SLS 3.2.9)
 static FUNCTIONS: [Row; 12] = [
     (
         "▮A => B▮",
-        "0 FunType 0-6 [1 TypeIdent A 0-1, 2 TypeIdent B 5-6]",
+        "0 FunType ▮A => B▮ [1 TypeIdent A ▮A▮ => B, 2 TypeIdent B A => ▮B▮]",
     ),
     (
         "▮A => B => C▮",
-        "0 FunType 0-11 [1 TypeIdent A 0-1, 2 FunType 5-11 [3 TypeIdent B 5-6, 4 TypeIdent C 10-11]]",
+        "0 FunType ▮A => B => C▮ [\
+             1 TypeIdent A ▮A▮ => B => C, \
+             2 FunType A => ▮B => C▮ [\
+                 3 TypeIdent B A => ▮B▮ => C, \
+                 4 TypeIdent C A => B => ▮C▮]]",
     ),
     (
         "▮(A => B) => C▮",
-        "0 FunType 0-13 [1 FunType 1-7 [2 TypeIdent A 1-2, 3 TypeIdent B 6-7], 4 TypeIdent C 12-13]",
+        "0 FunType ▮(A => B) => C▮ [\
+             1 FunType (▮A => B▮) => C [\
+                 2 TypeIdent A (▮A▮ => B) => C, \
+                 3 TypeIdent B (A => ▮B▮) => C], \
+             4 TypeIdent C (A => B) => ▮C▮]",
     ),
-    ("▮() => A▮", "0 FunType 0-7 [1 TypeIdent A 6-7]"),
+    ("▮() => A▮", "0 FunType ▮() => A▮ [1 TypeIdent A () => ▮A▮]"),
     (
         "▮(A) => B▮",
-        "0 FunType 0-8 [1 TypeIdent A 1-2, 2 TypeIdent B 7-8]",
+        "0 FunType ▮(A) => B▮ [\
+             1 TypeIdent A (▮A▮) => B, \
+             2 TypeIdent B (A) => ▮B▮]",
     ),
     (
         "▮(A, B) => C▮",
-        "0 FunType 0-11 [1 TypeIdent A 1-2, 2 TypeIdent B 4-5, 3 TypeIdent C 10-11]",
+        "0 FunType ▮(A, B) => C▮ [\
+             1 TypeIdent A (▮A▮, B) => C, \
+             2 TypeIdent B (A, ▮B▮) => C, \
+             3 TypeIdent C (A, B) => ▮C▮]",
     ),
     (
         "▮((A, B)) => C▮",
-        "0 FunType 0-13 [1 TupleType 1-7 [2 TypeIdent A 2-3, 3 TypeIdent B 5-6], 4 TypeIdent C 12-13]",
+        "0 FunType ▮((A, B)) => C▮ [\
+             1 TupleType (▮(A, B)▮) => C [\
+                 2 TypeIdent A ((▮A▮, B)) => C, \
+                 3 TypeIdent B ((A, ▮B▮)) => C], \
+             4 TypeIdent C ((A, B)) => ▮C▮]",
     ),
     (
         "▮(A, B, C, D) => E▮",
-        "0 FunType 0-17 [1 TypeIdent A 1-2, 2 TypeIdent B 4-5, 3 TypeIdent C 7-8, \
-             4 TypeIdent D 10-11, 5 TypeIdent E 16-17]",
+        "0 FunType ▮(A, B, C, D) => E▮ [\
+             1 TypeIdent A (▮A▮, B, C, D) => E, \
+             2 TypeIdent B (A, ▮B▮, C, D) => E, \
+             3 TypeIdent C (A, B, ▮C▮, D) => E, \
+             4 TypeIdent D (A, B, C, ▮D▮) => E, \
+             5 TypeIdent E (A, B, C, D) => ▮E▮]",
     ),
     (
         "▮A => (B)▮",
-        "0 FunType 0-8 [1 TypeIdent A 0-1, 2 TypeIdent B 6-7]",
+        "0 FunType ▮A => (B)▮ [\
+             1 TypeIdent A ▮A▮ => (B), \
+             2 TypeIdent B A => (▮B▮)]",
     ),
     (
         "▮A\n=> B▮",
-        "0 FunType 0-6 [1 TypeIdent A 0-1, 2 TypeIdent B 5-6]",
+        "0 FunType ▮A\n=> B▮ [1 TypeIdent A ▮A▮\n=> B, 2 TypeIdent B A\n=> ▮B▮]",
     ),
     (
         "▮A \u{21d2} B▮",
-        "0 FunType 0-7 [1 TypeIdent A 0-1, 2 TypeIdent B 6-7]",
+        "0 FunType ▮A \u{21d2} B▮ [\
+             1 TypeIdent A ▮A▮ \u{21d2} B, \
+             2 TypeIdent B A \u{21d2} ▮B▮]",
     ),
     (
         "▮A[B] => c.D▮ {",
-        "0 FunType 0-11 [1 AppliedType A@0-1 0-4 [2 TypeIdent A 0-1, 3 TypeIdent B 2-3], \
-             4 TypeSelect D@10-11 8-11 [5 Ident c 8-9]]",
+        "0 FunType ▮A[B] => c.D▮ { [\
+             1 AppliedType A ▮A[B]▮ => c.D { @ ▮A▮[B] => c.D { [\
+                 2 TypeIdent A ▮A▮[B] => c.D {, \
+                 3 TypeIdent B A[▮B▮] => c.D {], \
+             4 TypeSelect D A[B] => ▮c.D▮ { @ A[B] => c.▮D▮ { [\
+                 5 Ident c A[B] => ▮c▮.D {]]",
     ),
 ];
 
 // what may stand behind a type is no part of it
 static ENDS: [Row; 14] = [
-    ("class C extends ▮A▮ with B", "0 TypeIdent A 16-17"),
-    ("new ▮A▮ { }", "0 TypeIdent A 4-5"),
-    ("type T = ▮A▮\nval x: B = 1", "0 TypeIdent A 9-10"),
-    ("def f(x: ▮A▮, y: B): C = 1", "0 TypeIdent A 9-10"),
-    ("def f(x: A, y: ▮B▮): C = 1", "0 TypeIdent B 15-16"),
-    ("def f(x: A*): ▮C▮ = 1", "0 TypeIdent C 14-15"),
-    ("def f(x: ▮A▮*): C = 1", "0 TypeIdent A 9-10"),
-    ("▮A▮ B", "0 TypeIdent A 0-1"),
-    ("▮A▮ #B", "0 TypeIdent A 0-1"),
-    ("▮A▮ forSome { }", "0 TypeIdent A 0-1"),
-    ("▮A▮ =>", "0 TypeIdent A 0-1"),
-    ("▮A▮ => = 1", "0 TypeIdent A 0-1"),
+    (
+        "class C extends ▮A▮ with B",
+        "0 TypeIdent A class C extends ▮A▮ with B",
+    ),
+    ("new ▮A▮ { }", "0 TypeIdent A new ▮A▮ { }"),
+    (
+        "type T = ▮A▮\nval x: B = 1",
+        "0 TypeIdent A type T = ▮A▮\nval x: B = 1",
+    ),
+    (
+        "def f(x: ▮A▮, y: B): C = 1",
+        "0 TypeIdent A def f(x: ▮A▮, y: B): C = 1",
+    ),
+    (
+        "def f(x: A, y: ▮B▮): C = 1",
+        "0 TypeIdent B def f(x: A, y: ▮B▮): C = 1",
+    ),
+    (
+        "def f(x: A*): ▮C▮ = 1",
+        "0 TypeIdent C def f(x: A*): ▮C▮ = 1",
+    ),
+    (
+        "def f(x: ▮A▮*): C = 1",
+        "0 TypeIdent A def f(x: ▮A▮*): C = 1",
+    ),
+    ("▮A▮ B", "0 TypeIdent A ▮A▮ B"),
+    ("▮A▮ #B", "0 TypeIdent A ▮A▮ #B"),
+    ("▮A▮ forSome { }", "0 TypeIdent A ▮A▮ forSome { }"),
+    ("▮A▮ =>", "0 TypeIdent A ▮A▮ =>"),
+    ("▮A▮ => = 1", "0 TypeIdent A ▮A▮ => = 1"),
     (
         "▮(A, B)▮ => [",
-        "0 TupleType 0-6 [1 TypeIdent A 1-2, 2 TypeIdent B 4-5]",
+        "0 TupleType ▮(A, B)▮ => [ [\
+             1 TypeIdent A (▮A▮, B) => [, \
+             2 TypeIdent B (A, ▮B▮) => []",
     ),
     (
         "▮A => B▮ => (C",
-        "0 FunType 0-6 [1 TypeIdent A 0-1, 2 TypeIdent B 5-6]",
+        "0 FunType ▮A => B▮ => (C [\
+             1 TypeIdent A ▮A▮ => B => (C, \
+             2 TypeIdent B A => ▮B▮ => (C]",
     ),
 ];
 

@@ -1,4 +1,8 @@
-//! Which tree stands at an offset. The trees and the answers were worked out from the grammar of the language.
+//! Which tree stands at an offset. The trees and the answers were worked out from the grammar of the language. In each
+//! row one ▮ marks an offset of a text, and two the span of a tree.
+
+ghost use Rattle.std.specs.Prelude.{IfOk};
+ghost use Rattle.positioned_trees.specs.Located.{IsPlaced};
 
 use pc_terms::{NoMemory, Row, Span, Text, TreeKind};
 use positioned_trees::{Detail, MAX_HEIGHT, SourceUnit, Tree, is_placed, locate, number};
@@ -7,117 +11,26 @@ use std::process::Abort;
 use std::test::Fail;
 
 /// A tree: the number of trees that it stands in, its kind, its span, and whether it is opaque.
-type Node = (u16, TreeKind, u32, u32, bool);
+type Node = (u16, TreeKind, &'static str, bool);
 
-static OBJECT: [Node; 4] = [
-    (0, TreeKind::Unit, 0, 22, true),
-    (1, TreeKind::ObjectDef, 0, 22, true),
-    (2, TreeKind::ValDef, 11, 20, true),
-    (3, TreeKind::Literal, 19, 20, true),
-];
+/// An offset, and what stands there: the tree's number, its kind and its span.
+type Asked = (&'static str, &'static str);
 
-static EMPTY: [Node; 1] = [(0, TreeKind::Unit, 0, 0, true)];
-
-static MINUS: [Node; 6] = [
-    (0, TreeKind::Unit, 0, 52, true),
-    (1, TreeKind::ObjectDef, 0, 52, true),
-    (2, TreeKind::ValDef, 11, 30, true),
-    (3, TreeKind::Literal, 19, 30, true),
-    (2, TreeKind::ValDef, 32, 50, true),
-    (3, TreeKind::Literal, 40, 50, true),
-];
-
-static LINES: [Node; 9] = [
-    (0, TreeKind::Unit, 0, 59, true),
-    (1, TreeKind::ObjectDef, 0, 59, true),
-    (2, TreeKind::ValDef, 13, 25, true),
-    (3, TreeKind::Literal, 21, 25, true),
-    (2, TreeKind::ValDef, 28, 57, true),
-    (3, TreeKind::If, 36, 57, true),
-    (4, TreeKind::Ident, 40, 41, true),
-    (4, TreeKind::Literal, 47, 48, true),
-    (4, TreeKind::Literal, 56, 57, true),
-];
-
-static NAMELESS: [Node; 8] = [
-    (0, TreeKind::Unit, 0, 34, true),
-    (1, TreeKind::ObjectDef, 0, 34, true),
-    (2, TreeKind::ValDef, 11, 20, true),
-    (3, TreeKind::Literal, 19, 20, true),
-    (2, TreeKind::ValDef, 22, 32, true),
-    (3, TreeKind::Select, 30, 32, true),
-    (4, TreeKind::Ident, 30, 31, true),
-    (4, TreeKind::Hole, 32, 32, true),
-];
-
-static CALL: [Node; 5] = [
-    (0, TreeKind::Unit, 0, 4, true),
-    (1, TreeKind::Apply, 0, 4, true),
-    (2, TreeKind::Ident, 0, 1, true),
-    (2, TreeKind::Block, 1, 4, true),
-    (3, TreeKind::Literal, 2, 3, true),
-];
-
-static HOLE_AT_A_BLOCK: [Node; 7] = [
-    (0, TreeKind::Unit, 0, 7, true),
-    (1, TreeKind::Apply, 0, 7, true),
-    (2, TreeKind::Select, 0, 2, true),
-    (3, TreeKind::Ident, 0, 1, true),
-    (3, TreeKind::Hole, 2, 2, true),
-    (2, TreeKind::Block, 2, 7, true),
-    (3, TreeKind::Literal, 4, 5, true),
-];
-
-static EMPTY_BODY: [Node; 4] = [
-    (0, TreeKind::Unit, 0, 8, true),
-    (1, TreeKind::Function, 0, 8, true),
-    (2, TreeKind::Param, 2, 3, true),
-    (2, TreeKind::Block, 6, 6, true),
-];
-
-static INFIX: [Node; 5] = [
-    (0, TreeKind::Unit, 0, 5, true),
-    (1, TreeKind::Apply, 0, 5, true),
-    (2, TreeKind::Select, 0, 3, false),
-    (3, TreeKind::Ident, 0, 1, true),
-    (2, TreeKind::Ident, 4, 5, true),
-];
-
-static TURNED: [Node; 5] = [
-    (0, TreeKind::Unit, 0, 6, true),
-    (1, TreeKind::Apply, 0, 6, true),
-    (2, TreeKind::Select, 2, 6, false),
-    (3, TreeKind::Ident, 5, 6, true),
-    (2, TreeKind::Literal, 0, 1, true),
-];
-
-static PLACEHOLDER: [Node; 6] = [
-    (0, TreeKind::Unit, 0, 5, true),
-    (1, TreeKind::Function, 0, 5, true),
-    (2, TreeKind::Param, 0, 1, false),
-    (2, TreeKind::Apply, 0, 5, true),
-    (3, TreeKind::Ident, 0, 1, true),
-    (3, TreeKind::Literal, 4, 5, true),
-];
-
-static LOOP: [Node; 12] = [
-    (0, TreeKind::Unit, 0, 20, true),
-    (1, TreeKind::Apply, 0, 20, true),
-    (2, TreeKind::Select, 5, 17, false),
-    (3, TreeKind::Apply, 5, 17, false),
-    (4, TreeKind::Select, 10, 12, false),
-    (5, TreeKind::Ident, 10, 12, true),
-    (4, TreeKind::Function, 5, 17, false),
-    (5, TreeKind::Param, 5, 6, true),
-    (5, TreeKind::Ident, 16, 17, true),
-    (2, TreeKind::Function, 5, 20, false),
-    (3, TreeKind::Param, 5, 6, false),
-    (3, TreeKind::Literal, 19, 20, true),
-];
+// The span between two marks.
+fn span_of(marked: &str) -> Span {
+    let (front, rest) = marked.split_once('▮').unwrap_or((marked, ""));
+    let (part, _) = rest.split_once('▮').unwrap_or((rest, ""));
+    let start = u32::try_from(front.len()).unwrap_or(u32::MAX);
+    let length = u32::try_from(part.len()).unwrap_or(u32::MAX);
+    Span {
+        start,
+        end: start.saturating_add(length),
+    }
+}
 
 fn tree(alloc: Global, node: Node, kids: Vec<Tree>) -> Result<Tree, NoMemory> {
-    let (_, kind, start, end, opaque) = node;
-    let span = Span { start, end };
+    let (_, kind, marked, opaque) = node;
+    let span = span_of(marked);
     Ok(Tree {
         id: 0,
         span,
@@ -180,20 +93,17 @@ fn unit(alloc: Global, length: usize, nodes: &[Node]) -> Result<Option<SourceUni
 fn shown(alloc: Global, nodes: &[Node], found: Option<u32>) -> Result<String, AllocError> {
     match found {
         Some(id) => match nodes.get(id as usize) {
-            Some((_, kind, start, end, _)) => format!(in alloc; "{id} {kind:?} {start}-{end}"),
+            Some((_, kind, marked, _)) => format!(in alloc; "{id} {kind:?} {marked}"),
             None => format!(in alloc; "{id}"),
         },
         None => String::from_str(alloc, "none"),
     }
 }
 
-// The trees of a text in pre-order, and for offsets what stands there: its number, its kind and its span.
-fn agree(
-    rt: &(impl Abort + AllocGlobal),
-    text: &str,
-    nodes: &[Node],
-    places: &[(u32, &str)],
-) -> Result<(), Fail> {
+// The unit of a text with these trees in pre-order, which are numbered.
+fn numbered(rt: &(impl Abort + AllocGlobal), text: &str, nodes: &[Node]) -> Result<SourceUnit, Fail>
+    ensures { IfOk result IsPlaced }
+{
     let mut unit = unit(rt.alloc(), text.len(), nodes)?.expect(rt, "a tree");
     assert!(rt; is_placed(&unit), "the trees of {text:?}");
     let next = number(rt.alloc(), &mut unit.root, 0);
@@ -203,165 +113,479 @@ fn agree(
         "the trees of {text:?}"
     );
     assert!(rt; is_placed(&unit), "the trees of {text:?}");
-    for (offset, expected) in places {
-        let found = shown(rt.alloc(), nodes, locate(&unit, *offset))?;
-        assert_eq!(rt; found.as_str(), *expected, "at {offset} of {text:?}");
+    Ok(unit)
+}
+
+// A text without its mark, and the offset of the mark.
+fn unmarked(alloc: Global, marked: &str) -> Result<(String, u32), AllocError> {
+    let (front, back) = marked.split_once('▮').unwrap_or((marked, ""));
+    let text = format!(in alloc; "{front}{back}")?;
+    Ok((text, u32::try_from(front.len()).unwrap_or(u32::MAX)))
+}
+
+// Whether these trees stand at these offsets of a text.
+fn agree(
+    rt: &(impl Abort + AllocGlobal),
+    text: &str,
+    nodes: &[Node],
+    asked: &[Asked],
+) -> Result<(), Fail> {
+    let unit = numbered(rt, text, nodes)?;
+    for (marked, expected) in asked {
+        let (plain, offset) = unmarked(rt.alloc(), marked)?;
+        assert_eq!(rt; plain.as_str(), text);
+        let found = shown(rt.alloc(), nodes, locate(&unit, offset))?;
+        assert_eq!(rt; found.as_str(), *expected, "{marked}");
     }
     Ok(())
 }
 
+static OBJECT: [Node; 4] = [
+    (0, TreeKind::Unit, "▮object A { val x = 1 }▮", true),
+    (1, TreeKind::ObjectDef, "▮object A { val x = 1 }▮", true),
+    (2, TreeKind::ValDef, "object A { ▮val x = 1▮ }", true),
+    (3, TreeKind::Literal, "object A { val x = ▮1▮ }", true),
+];
+
+static IN_OBJECT: [Asked; 9] = [
+    (
+        "▮object A { val x = 1 }",
+        "1 ObjectDef ▮object A { val x = 1 }▮",
+    ),
+    (
+        "object A {▮ val x = 1 }",
+        "1 ObjectDef ▮object A { val x = 1 }▮",
+    ),
+    (
+        "object A { ▮val x = 1 }",
+        "2 ValDef object A { ▮val x = 1▮ }",
+    ),
+    (
+        "object A { val ▮x = 1 }",
+        "2 ValDef object A { ▮val x = 1▮ }",
+    ),
+    (
+        "object A { val x =▮ 1 }",
+        "2 ValDef object A { ▮val x = 1▮ }",
+    ),
+    (
+        "object A { val x = ▮1 }",
+        "3 Literal object A { val x = ▮1▮ }",
+    ),
+    (
+        "object A { val x = 1▮ }",
+        "3 Literal object A { val x = ▮1▮ }",
+    ),
+    (
+        "object A { val x = 1 ▮}",
+        "1 ObjectDef ▮object A { val x = 1 }▮",
+    ),
+    (
+        "object A { val x = 1 }▮",
+        "1 ObjectDef ▮object A { val x = 1 }▮",
+    ),
+];
+
+static EMPTY: [Node; 1] = [(0, TreeKind::Unit, "▮▮", true)];
+
+static IN_EMPTY: [Asked; 1] = [("▮", "0 Unit ▮▮")];
+
+static MINUS: [Node; 6] = [
+    (
+        0,
+        TreeKind::Unit,
+        "▮object M { val m = -2147483648; val n = 2147483648 }▮",
+        true,
+    ),
+    (
+        1,
+        TreeKind::ObjectDef,
+        "▮object M { val m = -2147483648; val n = 2147483648 }▮",
+        true,
+    ),
+    (
+        2,
+        TreeKind::ValDef,
+        "object M { ▮val m = -2147483648▮; val n = 2147483648 }",
+        true,
+    ),
+    (
+        3,
+        TreeKind::Literal,
+        "object M { val m = ▮-2147483648▮; val n = 2147483648 }",
+        true,
+    ),
+    (
+        2,
+        TreeKind::ValDef,
+        "object M { val m = -2147483648; ▮val n = 2147483648▮ }",
+        true,
+    ),
+    (
+        3,
+        TreeKind::Literal,
+        "object M { val m = -2147483648; val n = ▮2147483648▮ }",
+        true,
+    ),
+];
+
+static IN_MINUS: [Asked; 5] = [
+    (
+        "object M { val m = ▮-2147483648; val n = 2147483648 }",
+        "3 Literal object M { val m = ▮-2147483648▮; val n = 2147483648 }",
+    ),
+    (
+        "object M { val m = -2147483648▮; val n = 2147483648 }",
+        "3 Literal object M { val m = ▮-2147483648▮; val n = 2147483648 }",
+    ),
+    (
+        "object M { val m = -2147483648;▮ val n = 2147483648 }",
+        "1 ObjectDef ▮object M { val m = -2147483648; val n = 2147483648 }▮",
+    ),
+    (
+        "object M { val m = -2147483648; ▮val n = 2147483648 }",
+        "4 ValDef object M { val m = -2147483648; ▮val n = 2147483648▮ }",
+    ),
+    (
+        "object M { val m = -2147483648; val n = 2147483648▮ }",
+        "5 Literal object M { val m = -2147483648; val n = ▮2147483648▮ }",
+    ),
+];
+
+static LINES: [Node; 9] = [
+    (
+        0,
+        TreeKind::Unit,
+        "▮object D {\n  val c = true\n  val r = if (c)\n    1\n  else 2\n}▮",
+        true,
+    ),
+    (
+        1,
+        TreeKind::ObjectDef,
+        "▮object D {\n  val c = true\n  val r = if (c)\n    1\n  else 2\n}▮",
+        true,
+    ),
+    (
+        2,
+        TreeKind::ValDef,
+        "object D {\n  ▮val c = true▮\n  val r = if (c)\n    1\n  else 2\n}",
+        true,
+    ),
+    (
+        3,
+        TreeKind::Literal,
+        "object D {\n  val c = ▮true▮\n  val r = if (c)\n    1\n  else 2\n}",
+        true,
+    ),
+    (
+        2,
+        TreeKind::ValDef,
+        "object D {\n  val c = true\n  ▮val r = if (c)\n    1\n  else 2▮\n}",
+        true,
+    ),
+    (
+        3,
+        TreeKind::If,
+        "object D {\n  val c = true\n  val r = ▮if (c)\n    1\n  else 2▮\n}",
+        true,
+    ),
+    (
+        4,
+        TreeKind::Ident,
+        "object D {\n  val c = true\n  val r = if (▮c▮)\n    1\n  else 2\n}",
+        true,
+    ),
+    (
+        4,
+        TreeKind::Literal,
+        "object D {\n  val c = true\n  val r = if (c)\n    ▮1▮\n  else 2\n}",
+        true,
+    ),
+    (
+        4,
+        TreeKind::Literal,
+        "object D {\n  val c = true\n  val r = if (c)\n    1\n  else ▮2▮\n}",
+        true,
+    ),
+];
+
+static IN_LINES: [Asked; 7] = [
+    (
+        "object D {\n  val c = true\n  val r = i▮f (c)\n    1\n  else 2\n}",
+        "5 If object D {\n  val c = true\n  val r = ▮if (c)\n    1\n  else 2▮\n}",
+    ),
+    (
+        "object D {\n  val c = true\n  val r = if (▮c)\n    1\n  else 2\n}",
+        "6 Ident object D {\n  val c = true\n  val r = if (▮c▮)\n    1\n  else 2\n}",
+    ),
+    (
+        "object D {\n  val c = true\n  val r = if (c▮)\n    1\n  else 2\n}",
+        "6 Ident object D {\n  val c = true\n  val r = if (▮c▮)\n    1\n  else 2\n}",
+    ),
+    (
+        "object D {\n  val c = true\n  val r = if (c)▮\n    1\n  else 2\n}",
+        "5 If object D {\n  val c = true\n  val r = ▮if (c)\n    1\n  else 2▮\n}",
+    ),
+    (
+        "object D {\n  val c = true\n  val r = if (c)\n    1▮\n  else 2\n}",
+        "7 Literal object D {\n  val c = true\n  val r = if (c)\n    ▮1▮\n  else 2\n}",
+    ),
+    (
+        "object D {\n  val c = true\n  val r = if (c)\n    1\n  else 2▮\n}",
+        "8 Literal object D {\n  val c = true\n  val r = if (c)\n    1\n  else ▮2▮\n}",
+    ),
+    (
+        "object D {\n  val c = true\n ▮ val r = if (c)\n    1\n  else 2\n}",
+        "1 ObjectDef ▮object D {\n  val c = true\n  val r = if (c)\n    1\n  else 2\n}▮",
+    ),
+];
+
+static NAMELESS: [Node; 8] = [
+    (
+        0,
+        TreeKind::Unit,
+        "▮object A { val x = 1; val y = A. }▮",
+        true,
+    ),
+    (
+        1,
+        TreeKind::ObjectDef,
+        "▮object A { val x = 1; val y = A. }▮",
+        true,
+    ),
+    (
+        2,
+        TreeKind::ValDef,
+        "object A { ▮val x = 1▮; val y = A. }",
+        true,
+    ),
+    (
+        3,
+        TreeKind::Literal,
+        "object A { val x = ▮1▮; val y = A. }",
+        true,
+    ),
+    (
+        2,
+        TreeKind::ValDef,
+        "object A { val x = 1; ▮val y = A.▮ }",
+        true,
+    ),
+    (
+        3,
+        TreeKind::Select,
+        "object A { val x = 1; val y = ▮A.▮ }",
+        true,
+    ),
+    (
+        4,
+        TreeKind::Ident,
+        "object A { val x = 1; val y = ▮A▮. }",
+        true,
+    ),
+    (
+        4,
+        TreeKind::Hole,
+        "object A { val x = 1; val y = A.▮▮ }",
+        true,
+    ),
+];
+
+static IN_NAMELESS: [Asked; 4] = [
+    (
+        "object A { val x = 1; val y = A▮. }",
+        "6 Ident object A { val x = 1; val y = ▮A▮. }",
+    ),
+    (
+        "object A { val x = 1; val y = A.▮ }",
+        "7 Hole object A { val x = 1; val y = A.▮▮ }",
+    ),
+    (
+        "object A { val x = 1; val y = A. ▮}",
+        "1 ObjectDef ▮object A { val x = 1; val y = A. }▮",
+    ),
+    (
+        "object A { val x = 1; val y = A. }▮",
+        "1 ObjectDef ▮object A { val x = 1; val y = A. }▮",
+    ),
+];
+
 #[test]
 fn an_offset_has_the_tree_with_the_latest_start(rt: HostRuntime) -> Result<(), Fail> {
-    agree(
-        &rt,
-        "object A { val x = 1 }",
-        &OBJECT,
-        &[
-            (0, "1 ObjectDef 0-22"),
-            (10, "1 ObjectDef 0-22"),
-            (11, "2 ValDef 11-20"),
-            (15, "2 ValDef 11-20"),
-            (18, "2 ValDef 11-20"),
-            (19, "3 Literal 19-20"),
-            (20, "3 Literal 19-20"),
-            (21, "1 ObjectDef 0-22"),
-            (22, "1 ObjectDef 0-22"),
-            (23, "none"),
-            (4294967295, "none"),
-        ],
-    )?;
-    agree(&rt, "", &EMPTY, &[(0, "0 Unit 0-0"), (1, "none")])?;
+    agree(&rt, "object A { val x = 1 }", &OBJECT, &IN_OBJECT)?;
+    agree(&rt, "", &EMPTY, &IN_EMPTY)?;
     agree(
         &rt,
         "object M { val m = -2147483648; val n = 2147483648 }",
         &MINUS,
-        &[
-            (19, "3 Literal 19-30"),
-            (30, "3 Literal 19-30"),
-            (31, "1 ObjectDef 0-52"),
-            (32, "4 ValDef 32-50"),
-            (50, "5 Literal 40-50"),
-            (53, "none"),
-        ],
+        &IN_MINUS,
     )?;
     agree(
         &rt,
         "object D {\n  val c = true\n  val r = if (c)\n    1\n  else 2\n}",
         &LINES,
-        &[
-            (37, "5 If 36-57"),
-            (40, "6 Ident 40-41"),
-            (41, "6 Ident 40-41"),
-            (42, "5 If 36-57"),
-            (48, "7 Literal 47-48"),
-            (57, "8 Literal 56-57"),
-            (27, "1 ObjectDef 0-59"),
-        ],
+        &IN_LINES,
     )?;
     agree(
         &rt,
         "object A { val x = 1; val y = A. }",
         &NAMELESS,
-        &[
-            (31, "6 Ident 30-31"),
-            (32, "7 Hole 32-32"),
-            (33, "1 ObjectDef 0-34"),
-            (34, "1 ObjectDef 0-34"),
-            (35, "none"),
-        ],
+        &IN_NAMELESS,
     )?;
     Ok(())
 }
+
+#[test]
+fn no_tree_stands_past_the_end(rt: HostRuntime) -> Result<(), Fail> {
+    let empty = numbered(&rt, "", &EMPTY)?;
+    assert_eq!(rt; locate(&empty, 1), None);
+    let object = numbered(&rt, "object A { val x = 1 }", &OBJECT)?;
+    assert_eq!(rt; locate(&object, object.length.saturating_add(1)), None);
+    assert_eq!(rt; locate(&object, u32::MAX), None);
+    Ok(())
+}
+
+static CALL: [Node; 5] = [
+    (0, TreeKind::Unit, "▮f{1}▮", true),
+    (1, TreeKind::Apply, "▮f{1}▮", true),
+    (2, TreeKind::Ident, "▮f▮{1}", true),
+    (2, TreeKind::Block, "f▮{1}▮", true),
+    (3, TreeKind::Literal, "f{▮1▮}", true),
+];
+
+static IN_CALL: [Asked; 4] = [
+    ("▮f{1}", "2 Ident ▮f▮{1}"),
+    ("f▮{1}", "3 Block f▮{1}▮"),
+    ("f{▮1}", "4 Literal f{▮1▮}"),
+    ("f{1}▮", "3 Block f▮{1}▮"),
+];
+
+static HOLE_AT_A_BLOCK: [Node; 7] = [
+    (0, TreeKind::Unit, "▮A.{ 1 }▮", true),
+    (1, TreeKind::Apply, "▮A.{ 1 }▮", true),
+    (2, TreeKind::Select, "▮A.▮{ 1 }", true),
+    (3, TreeKind::Ident, "▮A▮.{ 1 }", true),
+    (3, TreeKind::Hole, "A.▮▮{ 1 }", true),
+    (2, TreeKind::Block, "A.▮{ 1 }▮", true),
+    (3, TreeKind::Literal, "A.{ ▮1▮ }", true),
+];
+
+static IN_HOLE_AT_A_BLOCK: [Asked; 4] = [
+    ("A▮.{ 1 }", "3 Ident ▮A▮.{ 1 }"),
+    ("A.▮{ 1 }", "4 Hole A.▮▮{ 1 }"),
+    ("A.{▮ 1 }", "5 Block A.▮{ 1 }▮"),
+    ("A.{ 1 }▮", "5 Block A.▮{ 1 }▮"),
+];
+
+static EMPTY_BODY: [Node; 4] = [
+    (0, TreeKind::Unit, "▮{ x => }▮", true),
+    (1, TreeKind::Function, "▮{ x => }▮", true),
+    (2, TreeKind::Param, "{ ▮x▮ => }", true),
+    (2, TreeKind::Block, "{ x =>▮▮ }", true),
+];
+
+static IN_EMPTY_BODY: [Asked; 3] = [
+    ("{ x▮ => }", "2 Param { ▮x▮ => }"),
+    ("{ x =>▮ }", "3 Block { x =>▮▮ }"),
+    ("{ x => ▮}", "1 Function ▮{ x => }▮"),
+];
 
 #[test]
 fn of_trees_that_touch_the_later_or_the_shorter_one_is_found(rt: HostRuntime) -> Result<(), Fail> {
-    agree(
-        &rt,
-        "f{1}",
-        &CALL,
-        &[
-            (0, "2 Ident 0-1"),
-            (1, "3 Block 1-4"),
-            (2, "4 Literal 2-3"),
-            (4, "3 Block 1-4"),
-        ],
-    )?;
-    agree(
-        &rt,
-        "A.{ 1 }",
-        &HOLE_AT_A_BLOCK,
-        &[
-            (1, "3 Ident 0-1"),
-            (2, "4 Hole 2-2"),
-            (3, "5 Block 2-7"),
-            (7, "5 Block 2-7"),
-        ],
-    )?;
-    agree(
-        &rt,
-        "{ x => }",
-        &EMPTY_BODY,
-        &[
-            (3, "2 Param 2-3"),
-            (6, "3 Block 6-6"),
-            (7, "1 Function 0-8"),
-        ],
-    )?;
+    agree(&rt, "f{1}", &CALL, &IN_CALL)?;
+    agree(&rt, "A.{ 1 }", &HOLE_AT_A_BLOCK, &IN_HOLE_AT_A_BLOCK)?;
+    agree(&rt, "{ x => }", &EMPTY_BODY, &IN_EMPTY_BODY)?;
     Ok(())
 }
+
+static INFIX: [Node; 5] = [
+    (0, TreeKind::Unit, "▮a + b▮", true),
+    (1, TreeKind::Apply, "▮a + b▮", true),
+    (2, TreeKind::Select, "▮a +▮ b", false),
+    (3, TreeKind::Ident, "▮a▮ + b", true),
+    (2, TreeKind::Ident, "a + ▮b▮", true),
+];
+
+static IN_INFIX: [Asked; 5] = [
+    ("▮a + b", "3 Ident ▮a▮ + b"),
+    ("a▮ + b", "3 Ident ▮a▮ + b"),
+    ("a ▮+ b", "1 Apply ▮a + b▮"),
+    ("a +▮ b", "1 Apply ▮a + b▮"),
+    ("a + ▮b", "4 Ident a + ▮b▮"),
+];
+
+static TURNED: [Node; 5] = [
+    (0, TreeKind::Unit, "▮1 :: x▮", true),
+    (1, TreeKind::Apply, "▮1 :: x▮", true),
+    (2, TreeKind::Select, "1 ▮:: x▮", false),
+    (3, TreeKind::Ident, "1 :: ▮x▮", true),
+    (2, TreeKind::Literal, "▮1▮ :: x", true),
+];
+
+static IN_TURNED: [Asked; 3] = [
+    ("1▮ :: x", "4 Literal ▮1▮ :: x"),
+    ("1 :▮: x", "1 Apply ▮1 :: x▮"),
+    ("1 :: ▮x", "3 Ident 1 :: ▮x▮"),
+];
+
+static PLACEHOLDER: [Node; 6] = [
+    (0, TreeKind::Unit, "▮_ + 1▮", true),
+    (1, TreeKind::Function, "▮_ + 1▮", true),
+    (2, TreeKind::Param, "▮_▮ + 1", false),
+    (2, TreeKind::Apply, "▮_ + 1▮", true),
+    (3, TreeKind::Ident, "▮_▮ + 1", true),
+    (3, TreeKind::Literal, "_ + ▮1▮", true),
+];
+
+static IN_PLACEHOLDER: [Asked; 3] = [
+    ("▮_ + 1", "4 Ident ▮_▮ + 1"),
+    ("_ ▮+ 1", "3 Apply ▮_ + 1▮"),
+    ("_ + 1▮", "5 Literal _ + ▮1▮"),
+];
+
+static LOOP: [Node; 12] = [
+    (0, TreeKind::Unit, "▮for (s <- xs if s) 1▮", true),
+    (1, TreeKind::Apply, "▮for (s <- xs if s) 1▮", true),
+    (2, TreeKind::Select, "for (▮s <- xs if s▮) 1", false),
+    (3, TreeKind::Apply, "for (▮s <- xs if s▮) 1", false),
+    (4, TreeKind::Select, "for (s <- ▮xs▮ if s) 1", false),
+    (5, TreeKind::Ident, "for (s <- ▮xs▮ if s) 1", true),
+    (4, TreeKind::Function, "for (▮s <- xs if s▮) 1", false),
+    (5, TreeKind::Param, "for (▮s▮ <- xs if s) 1", true),
+    (5, TreeKind::Ident, "for (s <- xs if ▮s▮) 1", true),
+    (2, TreeKind::Function, "for (▮s <- xs if s) 1▮", false),
+    (3, TreeKind::Param, "for (▮s▮ <- xs if s) 1", false),
+    (3, TreeKind::Literal, "for (s <- xs if s) ▮1▮", true),
+];
+
+static IN_LOOP: [Asked; 8] = [
+    ("for (▮s <- xs if s) 1", "7 Param for (▮s▮ <- xs if s) 1"),
+    ("for (s▮ <- xs if s) 1", "7 Param for (▮s▮ <- xs if s) 1"),
+    ("for (s <▮- xs if s) 1", "1 Apply ▮for (s <- xs if s) 1▮"),
+    ("for (s <- x▮s if s) 1", "5 Ident for (s <- ▮xs▮ if s) 1"),
+    ("for (s <- xs i▮f s) 1", "1 Apply ▮for (s <- xs if s) 1▮"),
+    ("for (s <- xs if s▮) 1", "8 Ident for (s <- xs if ▮s▮) 1"),
+    ("for (s <- xs if s)▮ 1", "1 Apply ▮for (s <- xs if s) 1▮"),
+    ("for (s <- xs if s) ▮1", "11 Literal for (s <- xs if s) ▮1▮"),
+];
 
 #[test]
 fn a_tree_that_is_not_opaque_is_passed_over(rt: HostRuntime) -> Result<(), Fail> {
-    agree(
-        &rt,
-        "a + b",
-        &INFIX,
-        &[
-            (0, "3 Ident 0-1"),
-            (1, "3 Ident 0-1"),
-            (2, "1 Apply 0-5"),
-            (3, "1 Apply 0-5"),
-            (4, "4 Ident 4-5"),
-        ],
-    )?;
-    agree(
-        &rt,
-        "1 :: x",
-        &TURNED,
-        &[(1, "4 Literal 0-1"), (3, "1 Apply 0-6"), (5, "3 Ident 5-6")],
-    )?;
-    agree(
-        &rt,
-        "_ + 1",
-        &PLACEHOLDER,
-        &[(0, "4 Ident 0-1"), (2, "3 Apply 0-5"), (5, "5 Literal 4-5")],
-    )?;
-    agree(
-        &rt,
-        "for (s <- xs if s) 1",
-        &LOOP,
-        &[
-            (5, "7 Param 5-6"),
-            (6, "7 Param 5-6"),
-            (8, "1 Apply 0-20"),
-            (11, "5 Ident 10-12"),
-            (14, "1 Apply 0-20"),
-            (17, "8 Ident 16-17"),
-            (18, "1 Apply 0-20"),
-            (19, "11 Literal 19-20"),
-        ],
-    )?;
+    agree(&rt, "a + b", &INFIX, &IN_INFIX)?;
+    agree(&rt, "1 :: x", &TURNED, &IN_TURNED)?;
+    agree(&rt, "_ + 1", &PLACEHOLDER, &IN_PLACEHOLDER)?;
+    agree(&rt, "for (s <- xs if s) 1", &LOOP, &IN_LOOP)?;
     Ok(())
 }
 
-static TOO_SHORT: [Node; 1] = [(0, TreeKind::Unit, 0, 1, true)];
+static TOO_SHORT: [Node; 1] = [(0, TreeKind::Unit, "▮a▮b", true)];
 
-static HIDDEN: [Node; 1] = [(0, TreeKind::Unit, 0, 2, false)];
+static HIDDEN: [Node; 1] = [(0, TreeKind::Unit, "▮ab▮", false)];
 
 static OUTSIDE: [Node; 3] = [
-    (0, TreeKind::Unit, 0, 2, true),
-    (1, TreeKind::Select, 0, 1, true),
-    (2, TreeKind::Ident, 0, 2, true),
+    (0, TreeKind::Unit, "▮ab▮", true),
+    (1, TreeKind::Select, "▮a▮b", true),
+    (2, TreeKind::Ident, "▮ab▮", true),
 ];
 
 #[test]
@@ -377,7 +601,7 @@ fn a_unit_is_refused_where_its_trees_do_not_enclose_their_kids(
 
 // A unit of this height with one tree at each depth.
 fn chain(alloc: Global, height: u32) -> Result<SourceUnit, Fail> {
-    let node = (0, TreeKind::Block, 0, 2, true);
+    let node = (0, TreeKind::Block, "▮ab▮", true);
     let mut root = tree(alloc, node, Vec::new(alloc))?;
     for _ in 1..height {
         let mut kids = Vec::new(alloc);
