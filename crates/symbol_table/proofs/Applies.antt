@@ -1,5 +1,5 @@
 -- One method `apply` more.
-use Rattle.std.proofs.Common.{◌≡◌, ℕ, suc, ◌+◌, ◌<◌, ◌==◌, Bool, true, false, cond, ◌&&◌, ◌||◌, ⊎_elim, if◌then◌else◌, List, [], ◌∷◌, ◌++◌, map, length, take, drop, get_or, Option, Some, None, refl, sym, ap, subst, ◌∙◌, append-nil, append_assoc, arith}
+use Rattle.std.proofs.Common.{◌≡◌, ℕ, suc, ◌+◌, ◌<◌, ◌==◌, Bool, true, false, cond, ◌&&◌, ⊎_elim, if◌then◌else◌, List, [], ◌∷◌, ◌++◌, map, length, take, drop, get_or, Option, Some, None, refl, sym, ap, subst, ◌∙◌, append-nil, append_assoc, arith}
 use Rattle.std.specs.List.{All, count_by, filter, flat_map, list_any, slice_get}
 use Rattle.std.specs.Option.{option_and_then}
 use Rattle.std.specs.Str.{bytes_eq}
@@ -27,7 +27,7 @@ use Rattle.symbol_table.specs.Sources.{definition_in, definitions_in, names_pack
 use Rattle.symbol_table.specs.Symbols.{is_def, is_class, is_object, is_package, space_of, is_same_space}
 use Rattle.symbol_table.proofs.CaseClasses.{all_flat, alone, is_same_class, class-of, names_term-is, some_steps}
 use Rattle.symbol_table.proofs.Companioned.{still_here, among_now, grown_by, apart_now, one_or_none, flat-more, taken}
-use Rattle.symbol_table.proofs.Filtered.{filter_none}
+use Rattle.symbol_table.proofs.Filtered.{filter_none, or_nothing}
 use Rattle.symbol_table.proofs.Following.{number-at}
 use Rattle.symbol_table.proofs.Numbered.{IsAmong, among, own-push, owner-among, last-among, kind-among, path-among, owned-below, definition-of, definitions_in-append}
 use Rattle.symbol_table.proofs.PathsApart.{split_at, steps_at}
@@ -153,10 +153,6 @@ module _ (now : List Found) (nexts : AreNext now) (apart : ArePathsApart now) (d
 and_assoc : (a b c : Bool) → (a && (b && c)) ≡ ((a && b) && c)
 and_assoc true b c = refl
 and_assoc false b c = refl
-
-or_nothing : (a b : Bool) → b ≡ false → (a || b) ≡ a
-or_nothing true b h = refl
-or_nothing false b h = h
 
 no_package : (own : SymKind) → is_package own ≡ false → is_same_space (space_of own) space.Packages ≡ false
 no_package symbol.Package h = absurd (false≢true (sym h))

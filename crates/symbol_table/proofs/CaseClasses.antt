@@ -21,7 +21,7 @@ use Rattle.symbol_table.specs.Found.{IsOwner, AreNext, ArePathsApart, owner_step
 use Rattle.symbol_table.specs.Owners.{is_same_path, may_follow}
 use Rattle.symbol_table.specs.Sources.{definition_in, definitions_in}
 use Rattle.symbol_table.specs.Symbols.{is_def, is_class, space_of, is_same_space}
-use Rattle.symbol_table.proofs.Filtered.{none_pass}
+use Rattle.symbol_table.proofs.Filtered.{none_pass, not_not}
 use Rattle.symbol_table.proofs.Numbered.{IsAmong, among, own-push, owner-among, last-among, owned-below}
 use Rattle.symbol_table.proofs.PathsApart.{steps_at}
 
@@ -34,10 +34,6 @@ empty_if false a x kept e = e
 pub empty-any : {X : Type 0} (p : X → Bool) (xs : List X) → is_empty (filter p xs) ≡ not (list_any p xs)
 empty-any p [] = refl
 empty-any p (x ∷ xs) = empty_if (p x) (list_any p xs) x (filter p xs) (empty-any p xs)
-
-not_not : (b : Bool) → not (not b) ≡ b
-not_not true = refl
-not_not false = refl
 
 seen-some : (ds : List Found) → is_some (seen_of ds) ≡ not (is_empty ds)
 seen-some [] = refl

@@ -1,5 +1,5 @@
 -- The columns of definitions, one after the other.
-use Rattle.std.proofs.Common.{◌≡◌, false, List, [], ◌∷◌, ◌++◌, length, get_or, refl, sym, subst, ◌∙◌, arith}
+use Rattle.std.proofs.Common.{◌≡◌, false, List, ◌∷◌, ◌++◌, length, get_or, sym, subst, ◌∙◌, arith}
 use Rattle.std.proofs.Math.Seq.{get_or-append_seam}
 use Rattle.std.specs.List.{list_any, IsDistinct}
 use Rattle.std.proofs.lemmas.Bool.Decides.{same_from_decides}
@@ -29,7 +29,3 @@ fresh_path before rest one own =
     ∙ (λ i. path_eq (sym (get_or_append_left (paths_of before) (one.decl.path ∷ paths_of rest) d k h) i) (sym (get_or-append_seam (paths_of before) one.decl.path (paths_of rest) d) i))
     ∙ apart_from_distinct path_eq (paths_of before ++ one.decl.path ∷ paths_of rest) k (length (paths_of before)) d distinct h
     (omega (arith, length-append (paths_of before) (one.decl.path ∷ paths_of rest))))
-
-pub nothing_left : {X : Type 0} (xs : List X) → length xs ≡ 0 → xs ≡ []
-nothing_left [] h = refl
-nothing_left (x ∷ xs) h = absurd (omega arith)

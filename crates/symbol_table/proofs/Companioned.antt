@@ -20,6 +20,7 @@ use Rattle.symbol_table.specs.Owners.{may_follow}
 use Rattle.symbol_table.specs.Sources.{definition_in, definitions_in}
 use Rattle.symbol_table.specs.Symbols.{is_class}
 use Rattle.symbol_table.proofs.CaseClasses.{empty-any, all_flat, term-by_path, is_same_class, classes_apart, class-of}
+use Rattle.symbol_table.proofs.Filtered.{or_nothing, not_not}
 use Rattle.symbol_table.proofs.Numbered.{IsAmong, among, owner-among, definition-of, definitions_in-append}
 
 -- ---- lists that grow
@@ -136,16 +137,8 @@ module _ (old now : List Found) (count : ℕ) (d : Found) (is : slice_get old co
       ∙ ap (list_any (is_term_of e.owner e.own.name)) grown
       ∙ list_any-append (is_term_of e.owner e.own.name) D (definitions_in so.more)
       ∙ ap (λ b. list_any (is_term_of e.owner e.own.name) D || b) (others class)
-      ∙ or_false (list_any (is_term_of e.owner e.own.name) D)
+      ∙ or_nothing (list_any (is_term_of e.owner e.own.name) D) false refl
       ∙ sym (ap not (empty-any (is_term_of e.owner e.own.name) D) ∙ not_not (list_any (is_term_of e.owner e.own.name) D))
-    where
-      or_false : (b : Bool) → (b || false) ≡ b
-      or_false true = refl
-      or_false false = refl
-
-      not_not : (b : Bool) → not (not b) ≡ b
-      not_not true = refl
-      not_not false = refl
 
   nothing_added : (new : List Found) → new ≡ now → added_companion D e ≡ [] → HasCompanions old new (count + 1)
   nothing_added new same none = record {

@@ -26,12 +26,9 @@ use Rattle.symbol_table.proofs.Companioned.{one_or_none}
 use Rattle.symbol_table.proofs.Filtered.{filter_none, flat_map_none}
 use Rattle.symbol_table.proofs.Numbered.{definitions_in-append}
 use Rattle.symbol_table.proofs.SourceEntered.{new_kept, package-is}
+use Rattle.symbol_table.proofs.Sourcewise.{flat_map_agree}
 
 -- ---- filters
-
-flat_agree : {X A : Type 0} (f g : X → List A) (xs : List X) → ((x : X) → f x ≡ g x) → flat_map f xs ≡ flat_map g xs
-flat_agree f g [] same = refl
-flat_agree f g (x ∷ xs) same = λ i. same x i ++ flat_agree f g xs same i
 
 -- what gives nothing may be left out
 left_out : {X A : Type 0} (f : X → List A) (q r : X → Bool) (x : X) (xs ys : List X) (b c : Bool) → r x ≡ c → (b ≡ false → f x ≡ []) → flat_map f xs ≡ flat_map f (filter r ys)
@@ -144,7 +141,7 @@ module _ (roots : List Tree) (old middle now : List Found) (told telling : List 
   added_companions =
       companions.added
       ∙ ap (flat_map (added_companion D0)) (take_all (length old) D0 (omega (arith, length-map old (λ f. definition_in f.decl))))
-      ∙ flat_agree (added_companion D0) (added_companion W0) D0 same_companion
+      ∙ flat_map_agree (added_companion D0) (added_companion W0) D0 (λ k d lt. same_companion (get_or D0 k d))
       ∙ flat-only (added_companion W0) is_no_package D0 (no_companion_of W0)
       ∙ ap (flat_map (added_companion W0)) wrote
 
@@ -216,7 +213,7 @@ module _ (roots : List Tree) (old middle now : List Found) (told telling : List 
   added_applies : definitions_in so.more ≡ A
   added_applies =
       so.added ∙ ap (flat_map (added_apply D1)) classes
-      ∙ flat_agree (added_apply D1) (added_apply W1) D0 same_apply
+      ∙ flat_map_agree (added_apply D1) (added_apply W1) D0 (λ k d lt. same_apply (get_or D0 k d))
       ∙ flat-only (added_apply W1) is_no_package D0 (no_apply_of W1)
       ∙ ap (flat_map (added_apply W1)) wrote
 
@@ -249,6 +246,6 @@ module _ (roots : List Tree) (old middle now : List Found) (told telling : List 
       so.problems file d within
       ∙ ap (λ more. get_or told file d ++ more)
       (ap (λ ds. flat_map (apply_problems D1) (filter of_file ds)) classes
-      ∙ flat_agree (apply_problems D1) (apply_problems W1) (filter of_file D0) same_problem
+      ∙ flat_map_agree (apply_problems D1) (apply_problems W1) (filter of_file D0) (λ k d lt. same_problem (get_or (filter of_file D0) k d))
       ∙ flat-filter (apply_problems W1) is_no_package of_file D0 (no_problem_of W1)
       ∙ ap (λ ds. flat_map (apply_problems W1) (filter of_file ds)) wrote)

@@ -2,14 +2,13 @@
 use Rattle.std.proofs.Common.{◌≡◌, ℕ, suc, ◌+◌, ◌<◌, ◌≤◌, true, cond, List, [], ◌∷◌, ◌++◌, map, length, take, drop, get_or, Option, Some, None, inl, inr, ◌⊎◌, ⊎_elim, refl, sym, ap, ◌∙◌, subst, arith}
 use Rattle.std.specs.List.{count_by}
 use Rattle.std.proofs.Math.Seq.{drop-cons}
-use Rattle.std.proofs.lemmas.Bool.{false≢true, and_parts, and_from, cases_lt, eq-eqb}
+use Rattle.std.proofs.lemmas.Bool.{and_parts, and_from, cases_lt, eq-eqb}
 use Rattle.std.proofs.lemmas.List.{map-append, length-take, length_push, take-append-drop, append_cancel_right}
 use Rattle.std.proofs.lemmas.List.Elements.{filter-append}
 use Rattle.std.proofs.lemmas.List.Sums.{sum_by-cons, sum_by-append}
 use Rattle.std.proofs.lemmas.Option.{slice_get-get_or}
 use Rattle.std.proofs.lemmas.Slice.Eq.{bytes_eq-Decides}
 use Rattle.pc_terms.specs.declared.symbols.SymKind.{SymKind}
-use Rattle.pc_terms.specs.declared.symbols.SymKind.TheVariants as symbol
 use Rattle.pc_terms.specs.declared.symbols.SymStep.{SymStep}
 use Rattle.symbol_table.specs.declared.definitions.Found.{Found}
 use Rattle.symbol_table.specs.declared.definitions.Standing.{Standing}
@@ -19,11 +18,12 @@ use Rattle.symbol_table.specs.Found.{IsOwner, owner_steps, steps_of, owner_rank,
 use Rattle.symbol_table.specs.Owners.{may_follow, ordinal_after}
 use Rattle.symbol_table.specs.Symbols.{is_def, space_of, is_same_space}
 use Rattle.symbol_table.proofs.Kids.{owner_steps-more}
-use Rattle.symbol_table.proofs.Places.{slice_get-last, last_step-push}
+use Rattle.symbol_table.proofs.Seeing.{ordinal_of_def}
+use Rattle.symbol_table.proofs.Places.{is_one, slice_get-last, last_step-push}
 
 -- ---- the same step twice
 
-same_space : (x : NameSpace) → is_same_space x x ≡ true
+pub same_space : (x : NameSpace) → is_same_space x x ≡ true
 same_space space.Packages = refl
 same_space space.Terms = refl
 same_space space.Types = refl
@@ -39,13 +39,6 @@ named_itself before owner kind name standing =
 def_of_follower : (kinds rest : List SymKind) (kind : SymKind) → may_follow (kinds ++ kind ∷ rest) kind ≡ true → is_def kind ≡ true
 def_of_follower [] rest kind h = (and_parts _ _ h).1
 def_of_follower (first ∷ kinds) rest kind h = (and_parts _ _ h).1
-
-ordinal_of_def : (kinds : List SymKind) (kind : SymKind) → is_def kind ≡ true → ordinal_after kinds kind ≡ count_by is_def kinds
-ordinal_of_def kinds symbol.Def h = refl
-ordinal_of_def kinds _ h = absurd (false≢true h)
-
-abbrev is_one : SymKind → ℕ
-is_one own = cond (is_def own) 1 0
 
 count_through : (kinds rest : List SymKind) (kind : SymKind) → is_def kind ≡ true
     → count_by is_def (kinds ++ kind ∷ rest) ≡ count_by is_def kinds + (1 + count_by is_def rest)

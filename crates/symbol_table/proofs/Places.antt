@@ -86,7 +86,7 @@ at_outside tree (parent ∷ next ∷ outer) = symbol_outside (out-Tree parent.tr
 
 -- ---- how many methods are admitted
 
-abbrev is_one : SymKind → ℕ
+abbrev pub is_one : SymKind → ℕ
 is_one own = cond (is_def own) 1 0
 
 counted : (own : SymKind) (kinds : List SymKind) (b : Bool) → is_def own ≡ b → count_by is_def (filter is_def kinds) ≡ count_by is_def kinds

@@ -17,7 +17,7 @@ ordinal_none : (kind : SymKind) → ordinal_after [] kind ≡ 0
 ordinal_none symbol.Def = refl
 ordinal_none _ = refl
 
-ordinal_of_def : (kinds : List SymKind) (kind : SymKind) → is_def kind ≡ true → count_by is_def kinds ≡ ordinal_after kinds kind
+pub ordinal_of_def : (kinds : List SymKind) (kind : SymKind) → is_def kind ≡ true → count_by is_def kinds ≡ ordinal_after kinds kind
 ordinal_of_def kinds symbol.Def h = refl
 ordinal_of_def kinds _ h = absurd (false≢true h)
 

@@ -1,5 +1,5 @@
 -- One source more is entered.
-use Rattle.std.proofs.Common.{◌≡◌, ℕ, ◌+◌, Bool, true, false, cond, ◌&&◌, ◌||◌, ⊎_elim, if◌then◌else◌, List, [], ◌∷◌, ◌++◌, map, take, length-append, Option, Some, None, refl, sym, ap, subst, ◌∙◌, append-nil, arith}
+use Rattle.std.proofs.Common.{◌≡◌, ℕ, ◌+◌, Bool, true, false, cond, ◌&&◌, ◌||◌, ⊎_elim, if◌then◌else◌, List, [], ◌∷◌, ◌++◌, map, take, length-append, Option, Some, refl, sym, ap, subst, ◌∙◌, append-nil, arith}
 use Rattle.std.specs.List.{All, filter, flat_map, list_any, slice_get}
 use Rattle.std.proofs.lemmas.Bool.{false≢true, and_left, and_right, cases_Bool, not_from_true, not_from_false}
 use Rattle.std.proofs.lemmas.List.{same_from_push}
@@ -29,6 +29,7 @@ use Rattle.symbol_table.specs.Sources.{definition_in, definitions_in, names_pack
 use Rattle.symbol_table.specs.Symbols.{is_package, is_same_space, space_of}
 use Rattle.symbol_table.proofs.Entered.{new-append}
 use Rattle.symbol_table.proofs.Filtered.{filter_none, filter_all, list_any-map}
+use Rattle.symbol_table.proofs.KidTurns.{owner_grown}
 use Rattle.symbol_table.proofs.Kids.{owner_steps-more}
 use Rattle.symbol_table.proofs.Numbered.{IsAmong, among, found-as, definitions_in-append, last-among, kind-among, path-among, owned-below}
 use Rattle.symbol_table.proofs.Opening.{new_among-append, openings-package}
@@ -165,10 +166,6 @@ kinds-by_path found nexts apart owner owned kind name =
 
 -- ---- one source
 
-more_owner : (found more : List Found) (owner : Option ℕ) → IsOwner found owner → IsOwner (found ++ more) owner
-more_owner found more None h = tt
-more_owner found more (Some number) h = omega (arith, length-append found more)
-
 abbrev kids_if : Bool → Tree → List Tree
 kids_if same root = if same then (out-Tree root).kids else []
 
@@ -278,7 +275,7 @@ module _ (sources : List Source) (file : ℕ) (source : Source) (here : slice_ge
       ∙ sym (ap (new_definitions roots) (sites_before-more roots file root root_here) ∙ new-append roots (sites_before roots file) (sites_of file root))
 
   still_owner : IsOwner new.definitions.found.items innermost
-  still_owner = subst (λ f. IsOwner f innermost) (sym turn.0.found) (more_owner mid.definitions.found.items turn.0.more innermost opened.owner)
+  still_owner = subst (λ f. IsOwner f innermost) (sym turn.0.found) (owner_grown mid.definitions.found.items (mid.definitions.found.items ++ turn.0.more) innermost opened.owner (omega (arith, length-append mid.definitions.found.items turn.0.more)))
 
   path_still : owner_steps new.definitions.found.items innermost ≡ package_of root
   path_still = ap (λ f. owner_steps f innermost) turn.0.found ∙ owner_steps-more mid.definitions.found.items turn.0.more innermost opened.owner ∙ path_here

@@ -125,7 +125,7 @@ sites-in_source roots file root here = in_source file 0 file roots root here (om
 
 -- ---- qualifiers
 
-flat_map_agree : {X A : Type 0} (f g : X → List A) (xs : List X) → All (λ x. f x ≡ g x) xs → flat_map f xs ≡ flat_map g xs
+pub flat_map_agree : {X A : Type 0} (f g : X → List A) (xs : List X) → All (λ x. f x ≡ g x) xs → flat_map f xs ≡ flat_map g xs
 flat_map_agree f g [] all = refl
 flat_map_agree f g (x ∷ xs) all = λ i. All-head (λ y. f y ≡ g y) x xs all i ++ flat_map_agree f g xs (All-tail (λ y. f y ≡ g y) x xs all) i
 

@@ -23,7 +23,7 @@ use Rattle.symbol_table.specs.Symbols.{is_def, space_of, is_same_space}
 use Rattle.symbol_table.proofs.CaseClasses.{alone}
 use Rattle.symbol_table.proofs.Filtered.{filter_none}
 use Rattle.symbol_table.proofs.Numbered.{IsAmong, among, own-push, owner-among, last-among, kind-among, path-among}
-use Rattle.symbol_table.proofs.PathsApart.{split_at}
+use Rattle.symbol_table.proofs.PathsApart.{same_space, split_at}
 
 -- ---- what is equal in order
 
@@ -81,11 +81,6 @@ def_kind : (own : SymKind) → is_def own ≡ true → own ≡ symbol.Def
 def_kind symbol.Def h = refl
 def_kind _ h = absurd (false≢true h)
 
-space_itself : (x : NameSpace) → is_same_space x x ≡ true
-space_itself space.Packages = refl
-space_itself space.Terms = refl
-space_itself space.Types = refl
-
 module _ (now : List Found) (nexts : AreNext now) (apart : ArePathsApart now) (j k : ℕ) (d : Found) (up : j < k) (h : k < length now)
     (owner : (get_or now j d).owner ≡ (get_or now k d).owner) (twin : AreTwins (definition_in (get_or now j d).decl).own (definition_in (get_or now k d).decl).own) where
   abbrev x : Found
@@ -109,7 +104,7 @@ module _ (now : List Found) (nexts : AreNext now) (apart : ArePathsApart now) (j
   named_later : is_named y.owner (space_of b.kind) b.name x ≡ true
   named_later = and_from _ _ (eq-eqb _ _ (ap owner_rank owner))
       (ap (has_name (space_of b.kind) b.name) (last-among now x is_x)
-      ∙ and_from _ _ ((bytes_eq-Decides a.name b.name).1 twin.name) (ap (λ s. is_same_space s (space_of b.kind)) twin.space ∙ space_itself (space_of b.kind)))
+      ∙ and_from _ _ ((bytes_eq-Decides a.name b.name).1 twin.name) (ap (λ s. is_same_space s (space_of b.kind)) twin.space ∙ same_space (space_of b.kind)))
 
   later_def : is_def b.kind ≡ true
   later_def = ⊎_elim

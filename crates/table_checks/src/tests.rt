@@ -1,5 +1,8 @@
 //! What a table has. The definitions, items and problems were worked out from the rules of the language.
 
+ghost use Rattle.std.specs.Prelude.{◌≡◌, ◌≤◌, length, IfOk};
+ghost use Rattle.symbol_table.specs.Tables.{file_problems};
+
 use crate::printing;
 use crate::sources::{Node, source};
 use pc_terms::{NoMemory, Text, TreeKind};
@@ -14,25 +17,33 @@ type File = (&'static str, &'static [Node]);
 fn units(
     rt: &(impl Abort + AllocGlobal),
     files: &[File],
-) -> Result<Vec<(Text, SourceUnit)>, NoMemory> {
+) -> Result<Vec<(Text, SourceUnit)>, NoMemory>
+    ensures { IfOk result (λ units. length units.items ≡ length files.now) }
+{
     let alloc = rt.alloc();
     let mut units = Vec::new(alloc);
-    for (name, nodes) in files {
+    for file in files {
+        let (name, nodes) = *file;
         let unit = source(alloc, nodes)?.expect(rt, "a tree");
         units.push((Text::new(alloc, name)?, unit))?;
     }
     Ok(units)
 }
 
-fn entered(alloc: Global, units: &[(Text, SourceUnit)]) -> Result<Table, NoMemory> {
+fn entered(alloc: Global, units: &[(Text, SourceUnit)]) -> Result<Table, NoMemory>
+    ensures { IfOk result (λ table. length (file_problems table) ≡ length units.now) }
+{
     let mut loaded = Vec::new(alloc);
-    for (name, unit) in units {
+    for source in units {
+        let (name, unit) = source;
         loaded.push(Loaded { name, unit })?;
     }
     enter(alloc, loaded.as_slice())
 }
 
-fn told(alloc: Global, table: &Table, files: u32) -> Result<String, NoMemory> {
+fn told(alloc: Global, table: &Table, files: u32) -> Result<String, NoMemory>
+    requires { files ≤ length (file_problems table.now) }
+{
     let mut text = String::new(alloc);
     for file in 0..files {
         for problem in table.problems(file) {

@@ -1,11 +1,11 @@
 use Rattle.std.proofs.Common.{◌≡◌, List, [], ◌∷◌, ◌++◌, length, sym, ap, subst, ◌∙◌, append_assoc, append-nil, arith}
 use Rattle.std.specs.List.{list_any}
 use Rattle.std.specs.Vec.Iter.{into_iter_items}
-use Rattle.std.proofs.lemmas.List.{map-append}
+use Rattle.std.proofs.lemmas.List.{map-append, nil_from_length}
 use Rattle.type_substitution.specs.Substitution.{path_eq}
 use Rattle.symbol_table.specs.declared.definitions.Found.{Found}
 use Rattle.symbol_table.specs.Made.{HaveOwnPaths, AreColumns}
-use Rattle.symbol_table.proofs.Columned.{fresh_path, nothing_left}
+use Rattle.symbol_table.proofs.Columned.{fresh_path}
 use Rattle.symbol_table.proofs.table.columns_of.Goals as goal
 
 pub push_decl-requires : goal.push_decl-requires
@@ -42,7 +42,7 @@ pub returns : goal.returns
 returns c =
     let at = c.loop-each in
     let none = c.in-None.ensures.steps in
-    let empty : into_iter_items at.each-iterator ≡ [] = nothing_left (into_iter_items at.each-iterator) (sym at.invariant.left ∙ none.0) in
+    let empty : into_iter_items at.each-iterator ≡ [] = nil_from_length (into_iter_items at.each-iterator) (sym at.invariant.left ∙ none.0) in
     let all : at.yielded ≡ c.args.found.items =
     sym (append-nil at.yielded) ∙ ap (λ more. at.yielded ++ more) (sym empty) ∙ at.invariant.rest ∙ c.into_iter-each-iterator.ensures.into_iter_gives.0 in
     subst (λ found. AreColumns found at.columns) all at.invariant.columns
