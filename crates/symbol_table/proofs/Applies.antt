@@ -163,39 +163,39 @@ no_package symbol.TypeParam h = refl
 no_package _ h = refl
 
 module _ (e : Definition) where
-  abbrev S : List SymStep
-  S = companion_steps e
+  abbrev object_steps : List SymStep
+  object_steps = companion_steps e
 
   abbrev is_apply : Definition → Bool
-  is_apply = is_term_of S apply_name
+  is_apply = is_term_of object_steps apply_name
 
   -- no package stands in an object
-  pub outside : (d : Definition) → StandsInPackages d → is_same_path d.owner S ≡ false
+  pub outside : (d : Definition) → StandsInPackages d → is_same_path d.owner object_steps ≡ false
   outside d stands = false_from_ne_true _ (λ h.
-      false≢true (only_packages stands.names e.owner (synthetic_companion e).own (sym stands.owner ∙ paths_same d.owner S h)))
+      false≢true (only_packages stands.names e.owner (synthetic_companion e).own (sym stands.owner ∙ paths_same d.owner object_steps h)))
 
-  applies_alike : (d : Definition) → (names_package d ≡ true → StandsInPackages d) → is_named_below S symbol.Def apply_name d ≡ is_apply d
+  applies_alike : (d : Definition) → (names_package d ≡ true → StandsInPackages d) → is_named_below object_steps symbol.Def apply_name d ≡ is_apply d
   applies_alike d stands = ⊎_elim
       (λ (h : names_package d ≡ true). let apart = outside d (stands h) in
       and_left _ _ apart ∙ sym (and_left _ _ (and_left _ _ apart)))
       (λ (h : names_package d ≡ false).
-      and_assoc (is_same_path d.owner S) (bytes_eq d.own.name apply_name) (is_same_space (space_of d.own.kind) space.Terms)
-      ∙ ap (λ b. (is_same_path d.owner S && bytes_eq d.own.name apply_name) && b)
-      (sym (names_term-is S (space_of d.own.kind)
-      ∙ or_nothing _ _ (and_right (some_steps S) _ (no_package d.own.kind h)))))
+      and_assoc (is_same_path d.owner object_steps) (bytes_eq d.own.name apply_name) (is_same_space (space_of d.own.kind) space.Terms)
+      ∙ ap (λ b. (is_same_path d.owner object_steps && bytes_eq d.own.name apply_name) && b)
+      (sym (names_term-is object_steps (space_of d.own.kind)
+      ∙ or_nothing _ _ (and_right (some_steps object_steps) _ (no_package d.own.kind h)))))
       (cases_Bool (names_package d))
 
-  pub applies-below : (ds : List Definition) → PackagesStandWell ds → kinds_below ds S symbol.Def apply_name ≡ other_applies ds e
+  pub applies-below : (ds : List Definition) → PackagesStandWell ds → kinds_below ds object_steps symbol.Def apply_name ≡ other_applies ds e
   applies-below ds well =
-      through (λ x. x) (is_named_below S symbol.Def apply_name) is_apply (λ d. d.own.kind) (λ d. d.own.kind) ds
-      (All-weaker (λ d. names_package d ≡ true → StandsInPackages d) (λ d. (is_named_below S symbol.Def apply_name d ≡ is_apply d) × (d.own.kind ≡ d.own.kind))
+      through (λ x. x) (is_named_below object_steps symbol.Def apply_name) is_apply (λ d. d.own.kind) (λ d. d.own.kind) ds
+      (All-weaker (λ d. names_package d ≡ true → StandsInPackages d) (λ d. (is_named_below object_steps symbol.Def apply_name d ≡ is_apply d) × (d.own.kind ≡ d.own.kind))
       (λ d stands. (applies_alike d stands, refl)) ds well)
       ∙ ap (λ xs. map (λ d. d.own.kind) (filter is_apply xs)) (map-id ds)
 
   -- the methods of other companions are none of its
-  other_steps : (c : Definition) → is_same_class e c ≡ false → is_same_path (companion_steps c) S ≡ false
+  other_steps : (c : Definition) → is_same_class e c ≡ false → is_same_path (companion_steps c) object_steps ≡ false
   other_steps c h = false_from_ne_true _ (λ same.
-      let parts = same_from_push c.owner e.owner (synthetic_companion c).own (synthetic_companion e).own (paths_same (companion_steps c) S same) in
+      let parts = same_from_push c.owner e.owner (synthetic_companion c).own (synthetic_companion e).own (paths_same (companion_steps c) object_steps same) in
       false≢true (sym h ∙ and_from _ _ ((path-exact _ _).1 (ap path_of parts.0)) ((bytes_eq-Decides _ _).1 (ap (λ s. s.name) parts.1))))
 
 -- ---- problems
@@ -225,8 +225,8 @@ told_at telling at file p d within = ⊎_elim
 
 module _ (old now : List Found) (told telling : List (List Problem)) (count : ℕ) (d : Found) (is : slice_get old count ≡ Some d) (nexts : AreNext now) (apart : ArePathsApart now)
     (well : PackagesStandWell (definitions_in old)) (so : HasApplies old now told telling count) where
-  abbrev D : List Definition
-  D = definitions_in old
+  abbrev olds : List Definition
+  olds = definitions_in old
 
   abbrev this : Definition
   this = definition_in d.decl
@@ -240,129 +240,129 @@ module _ (old now : List Found) (told telling : List (List Problem)) (count : �
   is_this : IsAmong now d
   is_this = among_now old so.more now so.found count d is nexts apart
 
-  grown : definitions_in now ≡ D ++ definitions_in so.more
+  grown : definitions_in now ≡ olds ++ definitions_in so.more
   grown = grown_by old so.more now so.found count d is nexts apart
 
   -- what comes to one class
-  made : (more : List Found) (new : List Found) (next : List (List Problem)) → new ≡ now ++ more → definitions_in more ≡ added_apply D this → length next ≡ length telling
-      → ((file : ℕ) (p : List Problem) → file < length told → get_or next file p ≡ get_or telling file p ++ (if this.file == file then apply_problems D this else []))
+  made : (more : List Found) (new : List Found) (next : List (List Problem)) → new ≡ now ++ more → definitions_in more ≡ added_apply olds this → length next ≡ length telling
+      → ((file : ℕ) (p : List Problem) → file < length told → get_or next file p ≡ get_or telling file p ++ (if this.file == file then apply_problems olds this else []))
       → HasApplies old new told next (count + 1)
   made more new next same one long tells = record {
     more = so.more ++ more;
     found = same ∙ ap (λ f. f ++ more) so.found ∙ append_assoc old so.more more;
-    added = definitions_in-append so.more more ∙ (λ i. so.added i ++ one i) ∙ sym (flat-more old count d is (added_apply D));
+    added = definitions_in-append so.more more ∙ (λ i. so.added i ++ one i) ∙ sym (flat-more old count d is (added_apply olds));
     as_many = long ∙ so.as_many;
     problems = λ file p within.
         let of_file : Definition → Bool = λ c. c.file == file in
         tells file p within
-        ∙ (λ i. so.problems file p within i ++ sym (flat_if (apply_problems D) (of_file this) this) i)
-        ∙ append_assoc (get_or told file p) (flat_map (apply_problems D) (filter of_file (take count D))) (flat_map (apply_problems D) (filter of_file (this ∷ [])))
+        ∙ (λ i. so.problems file p within i ++ sym (flat_if (apply_problems olds) (of_file this) this) i)
+        ∙ append_assoc (get_or told file p) (flat_map (apply_problems olds) (filter of_file (take count olds))) (flat_map (apply_problems olds) (filter of_file (this ∷ [])))
         ∙ ap (λ more. get_or told file p ++ more)
-        (sym (ap (λ ds. flat_map (apply_problems D) (filter of_file ds)) (taken old count d is)
-        ∙ ap (flat_map (apply_problems D)) (filter-append of_file (take count D) (this ∷ []))
-        ∙ flat_map-append (apply_problems D) (filter of_file (take count D)) (filter of_file (this ∷ []))));
+        (sym (ap (λ ds. flat_map (apply_problems olds) (filter of_file ds)) (taken old count d is)
+        ∙ ap (flat_map (apply_problems olds)) (filter-append of_file (take count olds) (this ∷ []))
+        ∙ flat_map-append (apply_problems olds) (filter of_file (take count olds)) (filter of_file (this ∷ []))));
   }
 
-  quiet : (more : List Found) (new : List Found) (next : List (List Problem)) → new ≡ now ++ more → definitions_in more ≡ added_apply D this → next ≡ telling
-      → apply_problems D this ≡ [] → HasApplies old new told next (count + 1)
+  quiet : (more : List Found) (new : List Found) (next : List (List Problem)) → new ≡ now ++ more → definitions_in more ≡ added_apply olds this → next ≡ telling
+      → apply_problems olds this ≡ [] → HasApplies old new told next (count + 1)
   quiet more new next same one silent none =
       made more new next same one (ap length silent)
       (λ file p within. ap (λ ps. get_or ps file p) silent ∙ sym (append-nil (get_or telling file p))
-      ∙ ap (λ ps. get_or telling file p ++ ps) (sym (if_none (this.file == file) (apply_problems D this) none)))
+      ∙ ap (λ ps. get_or telling file p ++ ps) (sym (if_none (this.file == file) (apply_problems olds this) none)))
 
-  fits : is_class this.own.kind ≡ true → All (λ c. is_case_class c ≡ true → is_same_class this c ≡ false) (take count D)
+  fits : is_class this.own.kind ≡ true → All (λ c. is_case_class c ≡ true → is_same_class this c ≡ false) (take count olds)
   fits = apart_now old so.more now so.found count d is nexts apart
 
   -- the methods so far are no objects
   no_objects : list_any (is_companion this) (definitions_in so.more) ≡ false
   no_objects =
       ap (list_any (is_companion this)) so.added
-      ∙ list_any_none (is_companion this) (flat_map (added_apply D) (take count D))
-      (all_flat (λ s. is_companion this s ≡ false) (added_apply D) (take count D)
-      (λ k c lt. one_or_none (λ s. is_companion this s ≡ false) (adds_apply D (get_or (take count D) k c) && admits_apply D (get_or (take count D) k c))
-      (synthetic_apply D (get_or (take count D) k c)) (λ _. refl)))
+      ∙ list_any_none (is_companion this) (flat_map (added_apply olds) (take count olds))
+      (all_flat (λ s. is_companion this s ≡ false) (added_apply olds) (take count olds)
+      (λ k c lt. one_or_none (λ s. is_companion this s ≡ false) (adds_apply olds (get_or (take count olds) k c) && admits_apply olds (get_or (take count olds) k c))
+      (synthetic_apply olds (get_or (take count olds) k c)) (λ _. refl)))
 
-  has_is : list_any (is_companion this) (definitions_in now) ≡ has_companion D this
+  has_is : list_any (is_companion this) (definitions_in now) ≡ has_companion olds this
   has_is =
-      ap (list_any (is_companion this)) grown ∙ list_any-append (is_companion this) D (definitions_in so.more)
-      ∙ or_nothing (has_companion D this) _ no_objects
+      ap (list_any (is_companion this)) grown ∙ list_any-append (is_companion this) olds (definitions_in so.more)
+      ∙ or_nothing (has_companion olds this) _ no_objects
 
   -- and are owned by other companions
   others : is_class this.own.kind ≡ true → All (λ x. is_named_below (companion_steps this) symbol.Def apply_name x ≡ false) (definitions_in so.more)
   others class =
       subst (All (λ x. is_named_below (companion_steps this) symbol.Def apply_name x ≡ false)) (sym so.added)
-      (all_flat (λ x. is_named_below (companion_steps this) symbol.Def apply_name x ≡ false) (added_apply D) (take count D)
+      (all_flat (λ x. is_named_below (companion_steps this) symbol.Def apply_name x ≡ false) (added_apply olds) (take count olds)
       (All-weaker (λ c. is_case_class c ≡ true → is_same_class this c ≡ false)
-      (λ c. All (λ x. is_named_below (companion_steps this) symbol.Def apply_name x ≡ false) (added_apply D c))
-      (λ c h. one_or_none (λ x. is_named_below (companion_steps this) symbol.Def apply_name x ≡ false) (adds_apply D c && admits_apply D c) (synthetic_apply D c)
+      (λ c. All (λ x. is_named_below (companion_steps this) symbol.Def apply_name x ≡ false) (added_apply olds c))
+      (λ c h. one_or_none (λ x. is_named_below (companion_steps this) symbol.Def apply_name x ≡ false) (adds_apply olds c && admits_apply olds c) (synthetic_apply olds c)
       (λ both. and_left _ _ (other_steps this c (h (and_parts _ _ (and_parts _ _ both).0).0))))
-      (take count D) (fits class)))
+      (take count olds) (fits class)))
 
-  module _ (case_ : is_case_class this ≡ true) (has : has_companion D this ≡ true) (object : IsFound now nexts apart d is_this) where
-    kinds_is : kinds_named now (Some object.number) symbol.Def apply_name ≡ other_applies D this
+  module _ (case_ : is_case_class this ≡ true) (has : has_companion olds this ≡ true) (object : IsFound now nexts apart d is_this) where
+    kinds_is : kinds_named now (Some object.number) symbol.Def apply_name ≡ other_applies olds this
     kinds_is =
         kinds-by_path now nexts apart (Some object.number) object.inside symbol.Def apply_name
         ∙ (λ i. kinds_below (grown i) (object.steps i) symbol.Def apply_name)
-        ∙ kinds_below-more D (definitions_in so.more) (companion_steps this) symbol.Def apply_name (others (and_parts _ _ case_).0)
-        ∙ applies-below this D well
+        ∙ kinds_below-more olds (definitions_in so.more) (companion_steps this) symbol.Def apply_name (others (and_parts _ _ case_).0)
+        ∙ applies-below this olds well
 
-    admits_is : is_admitted now (Some object.number) symbol.Def apply_name ≡ admits_apply D this
+    admits_is : is_admitted now (Some object.number) symbol.Def apply_name ≡ admits_apply olds this
     admits_is = ap (λ kinds. may_follow kinds symbol.Def) kinds_is
 
     abbrev last : Found
     last = next_found now (Some object.number) symbol.Def apply_name (standing_of_class d)
 
-    last_is : definition_in last.decl ≡ synthetic_apply D this
+    last_is : definition_in last.decl ≡ synthetic_apply olds this
     last_is =
-        (λ i. definition_in (decl_of (record (synthetic_apply D this) {
+        (λ i. definition_in (decl_of (record (synthetic_apply olds this) {
           owner = object.steps i;
           own = record { kind = symbol.Def; name = apply_name; ordinal = count_by is_def (kinds_is i) };
         })))
-        ∙ definition-of (synthetic_apply D this)
+        ∙ definition-of (synthetic_apply olds this)
 
-    adds_is : adds_apply D this ≡ true
+    adds_is : adds_apply olds this ≡ true
     adds_is = and_from _ _ case_ has
 
-    by_admits : (b : Bool) → admits_apply D this ≡ b → (new : List Found) (next : List (List Problem)) → new ≡ with_apply_of now case (Some object.number)
+    by_admits : (b : Bool) → admits_apply olds this ≡ b → (new : List Found) (next : List (List Problem)) → new ≡ with_apply_of now case (Some object.number)
         → next ≡ told_once telling this.file (apply_problem_of now case (Some object.number)) → HasApplies old new told next (count + 1)
     by_admits true h new next same tells =
         quiet (last ∷ []) new next (same ∙ ap (λ t. if t then now ++ last ∷ [] else now) (admits_is ∙ h))
-        ((λ i. last_is i ∷ []) ∙ sym (ap (λ b. if b then synthetic_apply D this ∷ [] else []) (and_from _ _ adds_is h)))
+        ((λ i. last_is i ∷ []) ∙ sym (ap (λ b. if b then synthetic_apply olds this ∷ [] else []) (and_from _ _ adds_is h)))
         (tells ∙ ap (λ t. told_once telling this.file (if t then None else Some (double this.label_span apply_name))) (admits_is ∙ h))
-        (ap (λ b. if b then double this.label_span apply_name ∷ [] else []) (and_right (adds_apply D this) _ (not_from_true _ h)))
+        (ap (λ b. if b then double this.label_span apply_name ∷ [] else []) (and_right (adds_apply olds this) _ (not_from_true _ h)))
     by_admits false h new next same tells =
         let problem : Problem = double this.label_span apply_name in
-        let one : apply_problems D this ≡ problem ∷ [] =
-        ap (λ b. if b then problem ∷ [] else []) (and_from (adds_apply D this) _ adds_is (not_from_false _ h)) in
+        let one : apply_problems olds this ≡ problem ∷ [] =
+        ap (λ b. if b then problem ∷ [] else []) (and_from (adds_apply olds this) _ adds_is (not_from_false _ h)) in
         let more : next ≡ told_more telling this.file problem =
         tells ∙ ap (λ t. told_once telling this.file (if t then None else Some problem)) (admits_is ∙ h) in
         made [] new next (same ∙ ap (λ t. if t then now ++ last ∷ [] else now) (admits_is ∙ h) ∙ sym (append-nil now))
-        (sym (ap (λ b. if b then synthetic_apply D this ∷ [] else []) (and_right (adds_apply D this) _ h)))
+        (sym (ap (λ b. if b then synthetic_apply olds this ∷ [] else []) (and_right (adds_apply olds this) _ h)))
         (ap length more ∙ length-set telling this.file (get_or telling this.file [] ++ problem ∷ []))
         (λ file p within. ap (λ ps. get_or ps file p) more ∙ told_at telling this.file file problem p (omega (arith, within, so.as_many))
         ∙ ap (λ ps. get_or telling file p ++ (if this.file == file then ps else [])) (sym one))
 
-  by_has : is_case_class this ≡ true → (b : Bool) → has_companion D this ≡ b → (new : List Found) (next : List (List Problem)) → new ≡ with_apply now case
+  by_has : is_case_class this ≡ true → (b : Bool) → has_companion olds this ≡ b → (new : List Found) (next : List (List Problem)) → new ≡ with_apply now case
       → next ≡ told_once telling this.file (apply_problem now case) → HasApplies old new told next (count + 1)
   by_has case_ true h new next same tells =
       let object = the_companion now nexts apart d is_this (has_is ∙ h) in
-      by_admits case_ h object (admits_apply D this) refl new next (same ∙ ap (with_apply_of now case) object.is)
+      by_admits case_ h object (admits_apply olds this) refl new next (same ∙ ap (with_apply_of now case) object.is)
       (tells ∙ ap (λ o. told_once telling this.file (apply_problem_of now case o)) object.is)
   by_has case_ false h new next same tells =
       let none = no_companion now nexts apart d is_this (has_is ∙ h) in
-      let nothing : adds_apply D this ≡ false = and_right _ _ h in
+      let nothing : adds_apply olds this ≡ false = and_right _ _ h in
       quiet [] new next (same ∙ ap (with_apply_of now case) none ∙ sym (append-nil now))
-      (sym (ap (λ b. if b then synthetic_apply D this ∷ [] else []) (and_left _ _ nothing)))
+      (sym (ap (λ b. if b then synthetic_apply olds this ∷ [] else []) (and_left _ _ nothing)))
       (tells ∙ ap (λ o. told_once telling this.file (apply_problem_of now case o)) none)
       (ap (λ b. if b then double this.label_span apply_name ∷ [] else []) (and_left _ _ nothing))
 
   by_case : (b : Bool) → is_case_class this ≡ b → (new : List Found) (next : List (List Problem)) → new ≡ apply_added now (if b then Some case else None)
       → next ≡ told_by now telling (if b then Some case else None) → HasApplies old new told next (count + 1)
-  by_case true h new next same tells = by_has h (has_companion D this) refl new next same tells
+  by_case true h new next same tells = by_has h (has_companion olds this) refl new next same tells
   by_case false h new next same tells =
-      let nothing : adds_apply D this ≡ false = and_left _ _ h in
+      let nothing : adds_apply olds this ≡ false = and_left _ _ h in
       quiet [] new next (same ∙ sym (append-nil now))
-      (sym (ap (λ b. if b then synthetic_apply D this ∷ [] else []) (and_left _ _ nothing)))
+      (sym (ap (λ b. if b then synthetic_apply olds this ∷ [] else []) (and_left _ _ nothing)))
       tells
       (ap (λ b. if b then double this.label_span apply_name ∷ [] else []) (and_left _ _ nothing))
 

@@ -98,8 +98,8 @@ module _ (old more now : List Found) (found : now ≡ old ++ more) (count : ℕ)
 -- ---- the step
 
 module _ (old now : List Found) (count : ℕ) (d : Found) (is : slice_get old count ≡ Some d) (nexts : AreNext now) (apart : ArePathsApart now) (so : HasCompanions old now count) where
-  abbrev D : List Definition
-  D = definitions_in old
+  abbrev olds : List Definition
+  olds = definitions_in old
 
   abbrev e : Definition
   e = definition_in d.decl
@@ -110,10 +110,10 @@ module _ (old now : List Found) (count : ℕ) (d : Found) (is : slice_get old co
   is_d : IsAmong now d
   is_d = among_now old so.more now so.found count d is nexts apart
 
-  grown : definitions_in now ≡ D ++ definitions_in so.more
+  grown : definitions_in now ≡ olds ++ definitions_in so.more
   grown = grown_by old so.more now so.found count d is nexts apart
 
-  all_apart : is_class e.own.kind ≡ true → All (λ c. is_case_class c ≡ true → is_same_class e c ≡ false) (take count D)
+  all_apart : is_class e.own.kind ≡ true → All (λ c. is_case_class c ≡ true → is_same_class e c ≡ false) (take count olds)
   all_apart = apart_now old so.more now so.found count d is nexts apart
 
   abbrev class : CaseClass
@@ -123,29 +123,29 @@ module _ (old now : List Found) (count : ℕ) (d : Found) (is : slice_get old co
   others : is_class e.own.kind ≡ true → list_any (is_term_of e.owner e.own.name) (definitions_in so.more) ≡ false
   others class =
       ap (list_any (is_term_of e.owner e.own.name)) so.added
-      ∙ list_any_none (is_term_of e.owner e.own.name) (flat_map (added_companion D) (take count D))
-      (all_flat (λ s. is_term_of e.owner e.own.name s ≡ false) (added_companion D) (take count D)
-      (All-weaker (λ c. is_case_class c ≡ true → is_same_class e c ≡ false) (λ c. All (λ s. is_term_of e.owner e.own.name s ≡ false) (added_companion D c))
-      (λ c h. one_or_none (λ s. is_term_of e.owner e.own.name s ≡ false) (is_case_class c && is_empty (namesakes D c)) (synthetic_companion c)
+      ∙ list_any_none (is_term_of e.owner e.own.name) (flat_map (added_companion olds) (take count olds))
+      (all_flat (λ s. is_term_of e.owner e.own.name s ≡ false) (added_companion olds) (take count olds)
+      (All-weaker (λ c. is_case_class c ≡ true → is_same_class e c ≡ false) (λ c. All (λ s. is_term_of e.owner e.own.name s ≡ false) (added_companion olds c))
+      (λ c h. one_or_none (λ s. is_term_of e.owner e.own.name s ≡ false) (is_case_class c && is_empty (namesakes olds c)) (synthetic_companion c)
       (λ b. no_term c e (h (and_parts _ _ b).0)))
-      (take count D) (all_apart class)))
+      (take count olds) (all_apart class)))
 
-  term_is : is_class e.own.kind ≡ true → has_term now d.owner e.own.name ≡ not (is_empty (namesakes D e))
+  term_is : is_class e.own.kind ≡ true → has_term now d.owner e.own.name ≡ not (is_empty (namesakes olds e))
   term_is class =
       term-by_path now nexts apart d.owner is_d.owned e.own.name
       ∙ ap (λ s. list_any (is_term_of s e.own.name) (definitions_in now)) (sym (owner-among now d is_d))
       ∙ ap (list_any (is_term_of e.owner e.own.name)) grown
-      ∙ list_any-append (is_term_of e.owner e.own.name) D (definitions_in so.more)
-      ∙ ap (λ b. list_any (is_term_of e.owner e.own.name) D || b) (others class)
-      ∙ or_nothing (list_any (is_term_of e.owner e.own.name) D) false refl
-      ∙ sym (ap not (empty-any (is_term_of e.owner e.own.name) D) ∙ not_not (list_any (is_term_of e.owner e.own.name) D))
+      ∙ list_any-append (is_term_of e.owner e.own.name) olds (definitions_in so.more)
+      ∙ ap (λ b. list_any (is_term_of e.owner e.own.name) olds || b) (others class)
+      ∙ or_nothing (list_any (is_term_of e.owner e.own.name) olds) false refl
+      ∙ sym (ap not (empty-any (is_term_of e.owner e.own.name) olds) ∙ not_not (list_any (is_term_of e.owner e.own.name) olds))
 
-  nothing_added : (new : List Found) → new ≡ now → added_companion D e ≡ [] → HasCompanions old new (count + 1)
+  nothing_added : (new : List Found) → new ≡ now → added_companion olds e ≡ [] → HasCompanions old new (count + 1)
   nothing_added new same none = record {
     more = so.more;
     found = same ∙ so.found;
-    added = so.added ∙ sym (flat-more old count d is (added_companion D) ∙ ap (λ more. flat_map (added_companion D) (take count D) ++ more) none
-        ∙ append-nil (flat_map (added_companion D) (take count D)));
+    added = so.added ∙ sym (flat-more old count d is (added_companion olds) ∙ ap (λ more. flat_map (added_companion olds) (take count olds) ++ more) none
+        ∙ append-nil (flat_map (added_companion olds) (take count olds)));
   }
 
   abbrev last : Found
@@ -156,30 +156,30 @@ module _ (old now : List Found) (count : ℕ) (d : Found) (is : slice_get old co
       ap {A = List SymStep} (λ owner. definition_in (decl_of (record (synthetic_companion e) { owner = owner }))) (sym (owner-among now d is_d))
       ∙ definition-of (synthetic_companion e)
 
-  one_added : (new : List Found) → new ≡ now ++ last ∷ [] → added_companion D e ≡ synthetic_companion e ∷ [] → HasCompanions old new (count + 1)
+  one_added : (new : List Found) → new ≡ now ++ last ∷ [] → added_companion olds e ≡ synthetic_companion e ∷ [] → HasCompanions old new (count + 1)
   one_added new same one = record {
     more = so.more ++ last ∷ [];
     found = same ∙ ap (λ f. f ++ last ∷ []) so.found ∙ append_assoc old so.more (last ∷ []);
     added = definitions_in-append so.more (last ∷ []) ∙ (λ i. so.added i ++ last_is i ∷ [])
-        ∙ sym (flat-more old count d is (added_companion D) ∙ ap (λ more. flat_map (added_companion D) (take count D) ++ more) one);
+        ∙ sym (flat-more old count d is (added_companion olds) ∙ ap (λ more. flat_map (added_companion olds) (take count olds) ++ more) one);
   }
 
   by_term : is_case_class e ≡ true → (t : Bool) → has_term now d.owner e.own.name ≡ t → (new : List Found) → new ≡ with_companion now class → HasCompanions old new (count + 1)
   by_term case true h new same =
       nothing_added new (same ∙ ap (λ t. if t then now else defined now d.owner symbol.Object e.own.name (standing_of_class d)) h)
-      (ap (λ b. if b && is_empty (namesakes D e) then synthetic_companion e ∷ [] else []) case
-      ∙ ap (λ b. if b then synthetic_companion e ∷ [] else []) (not-true (is_empty (namesakes D e)) (sym (term_is (and_parts _ _ case).0) ∙ h)))
+      (ap (λ b. if b && is_empty (namesakes olds e) then synthetic_companion e ∷ [] else []) case
+      ∙ ap (λ b. if b then synthetic_companion e ∷ [] else []) (not-true (is_empty (namesakes olds e)) (sym (term_is (and_parts _ _ case).0) ∙ h)))
   by_term case false h new same =
       let unseen = (or_parts _ _ h).0 in
       one_added new
       (same ∙ ap (λ t. if t then now else defined now d.owner symbol.Object e.own.name (standing_of_class d)) h
       ∙ ap (λ t. if t then now ++ last ∷ [] else now) (admitted_first now d.owner e.own.name unseen))
-      (ap (λ b. if b && is_empty (namesakes D e) then synthetic_companion e ∷ [] else []) case
-      ∙ ap (λ b. if b then synthetic_companion e ∷ [] else []) (not-false (is_empty (namesakes D e)) (sym (term_is (and_parts _ _ case).0) ∙ h)))
+      (ap (λ b. if b && is_empty (namesakes olds e) then synthetic_companion e ∷ [] else []) case
+      ∙ ap (λ b. if b then synthetic_companion e ∷ [] else []) (not-false (is_empty (namesakes olds e)) (sym (term_is (and_parts _ _ case).0) ∙ h)))
 
   by_class : (b : Bool) → is_case_class e ≡ b → (new : List Found) → new ≡ companion_added now (if b then Some class else None) → HasCompanions old new (count + 1)
   by_class true h new same = by_term h (has_term now d.owner e.own.name) refl new same
-  by_class false h new same = nothing_added new same (ap (λ b. if b && is_empty (namesakes D e) then synthetic_companion e ∷ [] else []) h)
+  by_class false h new same = nothing_added new same (ap (λ b. if b && is_empty (namesakes olds e) then synthetic_companion e ∷ [] else []) h)
 
   pub companion_step : (new : List Found) → new ≡ companion_added now (case_class_at now count) → HasCompanions old new (count + 1)
   companion_step new same =

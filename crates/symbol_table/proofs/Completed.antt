@@ -114,70 +114,70 @@ no_problem_of all d h = ap (λ b. if b then double d.label_span apply_name ∷ [
 module _ (roots : List Tree) (old middle now : List Found) (told telling : List (List Problem))
     (opened : filter names_package (definitions_in old) ≡ packages roots) (wrote : filter is_no_package (definitions_in old) ≡ written roots)
     (companions : HasCompanions old middle (length old)) (applies : PackagesStandWell (definitions_in middle) → HasApplies middle now told telling (length old)) where
-  abbrev D0 : List Definition
-  D0 = definitions_in old
+  abbrev first_found : List Definition
+  first_found = definitions_in old
 
-  abbrev D1 : List Definition
-  D1 = definitions_in middle
+  abbrev middle_found : List Definition
+  middle_found = definitions_in middle
 
-  abbrev W0 : List Definition
-  W0 = packages_and_written roots
+  abbrev without_objects : List Definition
+  without_objects = packages_and_written roots
 
-  abbrev W1 : List Definition
-  W1 = with_companions roots
+  abbrev with_objects : List Definition
+  with_objects = with_companions roots
 
-  abbrev C : List Definition
-  C = flat_map (added_companion W0) (written roots)
+  abbrev objects : List Definition
+  objects = flat_map (added_companion without_objects) (written roots)
 
-  mixed : IsPermutation D0 W0
-  mixed = subst (IsPermutation D0) (λ i. opened i ++ wrote i) (IsPermutation-filter_both names_package is_no_package (λ _. refl) D0)
+  mixed : IsPermutation first_found without_objects
+  mixed = subst (IsPermutation first_found) (λ i. opened i ++ wrote i) (IsPermutation-filter_both names_package is_no_package (λ _. refl) first_found)
 
-  same_companion : (d : Definition) → added_companion D0 d ≡ added_companion W0 d
+  same_companion : (d : Definition) → added_companion first_found d ≡ added_companion without_objects d
   same_companion d = ap (λ b. if is_case_class d && b then synthetic_companion d ∷ [] else [])
-      (empty-any (is_term_of d.owner d.own.name) D0 ∙ ap not (list_any-IsPermutation (is_term_of d.owner d.own.name) D0 W0 mixed)
-      ∙ sym (empty-any (is_term_of d.owner d.own.name) W0))
+      (empty-any (is_term_of d.owner d.own.name) first_found ∙ ap not (list_any-IsPermutation (is_term_of d.owner d.own.name) first_found without_objects mixed)
+      ∙ sym (empty-any (is_term_of d.owner d.own.name) without_objects))
 
-  added_companions : definitions_in companions.more ≡ C
+  added_companions : definitions_in companions.more ≡ objects
   added_companions =
       companions.added
-      ∙ ap (flat_map (added_companion D0)) (take_all (length old) D0 (omega (arith, length-map old (λ f. definition_in f.decl))))
-      ∙ flat_map_agree (added_companion D0) (added_companion W0) D0 (λ k d lt. same_companion (get_or D0 k d))
-      ∙ flat-only (added_companion W0) is_no_package D0 (no_companion_of W0)
-      ∙ ap (flat_map (added_companion W0)) wrote
+      ∙ ap (flat_map (added_companion first_found)) (take_all (length old) first_found (omega (arith, length-map old (λ f. definition_in f.decl))))
+      ∙ flat_map_agree (added_companion first_found) (added_companion without_objects) first_found (λ k d lt. same_companion (get_or first_found k d))
+      ∙ flat-only (added_companion without_objects) is_no_package first_found (no_companion_of without_objects)
+      ∙ ap (flat_map (added_companion without_objects)) wrote
 
-  pub grown_once : D1 ≡ D0 ++ C
-  grown_once = ap definitions_in companions.found ∙ definitions_in-append old companions.more ∙ ap (λ ds. D0 ++ ds) added_companions
+  pub grown_once : middle_found ≡ first_found ++ objects
+  grown_once = ap definitions_in companions.found ∙ definitions_in-append old companions.more ∙ ap (λ ds. first_found ++ ds) added_companions
 
-  mixed_once : IsPermutation D1 W1
-  mixed_once = subst (λ ds. IsPermutation ds W1) (sym grown_once) (IsPermutation-append_left C D0 W0 mixed)
+  mixed_once : IsPermutation middle_found with_objects
+  mixed_once = subst (λ ds. IsPermutation ds with_objects) (sym grown_once) (IsPermutation-append_left objects first_found without_objects mixed)
 
-  old_well : PackagesStandWell D0
-  old_well = all_passing StandsInPackages names_package D0 (subst (All StandsInPackages) (sym opened) (packages_well roots))
+  old_well : PackagesStandWell first_found
+  old_well = all_passing StandsInPackages names_package first_found (subst (All StandsInPackages) (sym opened) (packages_well roots))
 
-  well : PackagesStandWell D1
+  well : PackagesStandWell middle_found
   well = subst PackagesStandWell (sym grown_once)
-      (All-append (λ d. names_package d ≡ true → StandsInPackages d) D0 C old_well
-      (all_flat (λ d. names_package d ≡ true → StandsInPackages d) (added_companion W0) (written roots)
+      (All-append (λ d. names_package d ≡ true → StandsInPackages d) first_found objects old_well
+      (all_flat (λ d. names_package d ≡ true → StandsInPackages d) (added_companion without_objects) (written roots)
       (λ k d lt. one_or_none (λ d. names_package d ≡ true → StandsInPackages d)
-      (is_case_class (get_or (written roots) k d) && is_empty (namesakes W0 (get_or (written roots) k d))) (synthetic_companion (get_or (written roots) k d))
+      (is_case_class (get_or (written roots) k d) && is_empty (namesakes without_objects (get_or (written roots) k d))) (synthetic_companion (get_or (written roots) k d))
       (λ _ h. absurd (false≢true h)))))
 
   pub so : HasApplies middle now told telling (length old)
   so = applies well
 
   -- the other methods are listed alike
-  same_methods : (d : Definition) → filter (is_term_of (companion_steps d) apply_name) D1 ≡ filter (is_term_of (companion_steps d) apply_name) W1
+  same_methods : (d : Definition) → filter (is_term_of (companion_steps d) apply_name) middle_found ≡ filter (is_term_of (companion_steps d) apply_name) with_objects
   same_methods d =
       let p : Definition → Bool = is_term_of (companion_steps d) apply_name in
-      let only : filter p D0 ≡ filter p (written roots) =
-      filter-only p is_no_package D0 (All-weaker (λ x. names_package x ≡ true → StandsInPackages x) (λ x. p x ≡ true → is_no_package x ≡ true)
-      (λ x stands h. no_package_passes d x stands h) D0 old_well)
+      let only : filter p first_found ≡ filter p (written roots) =
+      filter-only p is_no_package first_found (All-weaker (λ x. names_package x ≡ true → StandsInPackages x) (λ x. p x ≡ true → is_no_package x ≡ true)
+      (λ x stands h. no_package_passes d x stands h) first_found old_well)
       ∙ ap (filter p) wrote in
       let none : filter p (packages roots) ≡ [] =
       filter_none p (packages roots) (All-weaker StandsInPackages (λ x. p x ≡ false) (λ x stands. and_left _ _ (and_left _ _ (outside d x stands))) (packages roots) (packages_well roots)) in
-      ap (filter p) grown_once ∙ filter-append p D0 C
-      ∙ ap (λ ds. ds ++ filter p C) (only ∙ ap (λ ds. ds ++ filter p (written roots)) (sym none) ∙ sym (filter-append p (packages roots) (written roots)))
-      ∙ sym (filter-append p W0 C)
+      ap (filter p) grown_once ∙ filter-append p first_found objects
+      ∙ ap (λ ds. ds ++ filter p objects) (only ∙ ap (λ ds. ds ++ filter p (written roots)) (sym none) ∙ sym (filter-append p (packages roots) (written roots)))
+      ∙ sym (filter-append p without_objects objects)
     where
       no_package_passes : (d x : Definition) → (names_package x ≡ true → StandsInPackages x) → is_term_of (companion_steps d) apply_name x ≡ true → is_no_package x ≡ true
       no_package_passes d x stands h = by (names_package x) refl
@@ -186,66 +186,66 @@ module _ (roots : List Tree) (old middle now : List Found) (told telling : List 
           by true e = absurd (false≢true (sym (and_left _ _ (and_left _ _ (outside d x (stands e)))) ∙ h))
           by false e = refl
 
-  same_others : (d : Definition) → other_applies D1 d ≡ other_applies W1 d
+  same_others : (d : Definition) → other_applies middle_found d ≡ other_applies with_objects d
   same_others d = ap (map (λ x. x.own.kind)) (same_methods d)
 
-  same_adds : (d : Definition) → adds_apply D1 d ≡ adds_apply W1 d
-  same_adds d = ap (λ b. is_case_class d && b) (list_any-IsPermutation (is_companion d) D1 W1 mixed_once)
+  same_adds : (d : Definition) → adds_apply middle_found d ≡ adds_apply with_objects d
+  same_adds d = ap (λ b. is_case_class d && b) (list_any-IsPermutation (is_companion d) middle_found with_objects mixed_once)
 
-  same_admits : (d : Definition) → admits_apply D1 d ≡ admits_apply W1 d
+  same_admits : (d : Definition) → admits_apply middle_found d ≡ admits_apply with_objects d
   same_admits d = ap (λ kinds. may_follow kinds symbol.Def) (same_others d)
 
-  same_apply : (d : Definition) → added_apply D1 d ≡ added_apply W1 d
+  same_apply : (d : Definition) → added_apply middle_found d ≡ added_apply with_objects d
   same_apply d =
-      (λ i. if same_adds d i && same_admits d i then record (synthetic_apply W1 d) {
+      (λ i. if same_adds d i && same_admits d i then record (synthetic_apply with_objects d) {
         own = record { kind = symbol.Def; name = apply_name; ordinal = count_by is_def (same_others d i) };
       } ∷ [] else [])
 
-  same_problem : (d : Definition) → apply_problems D1 d ≡ apply_problems W1 d
+  same_problem : (d : Definition) → apply_problems middle_found d ≡ apply_problems with_objects d
   same_problem d = λ i. if same_adds d i && not (same_admits d i) then double d.label_span apply_name ∷ [] else []
 
-  classes : take (length old) D1 ≡ D0
-  classes = ap (take (length old)) grown_once ∙ take_at D0 C (length old) (length-map old (λ f. definition_in f.decl))
+  classes : take (length old) middle_found ≡ first_found
+  classes = ap (take (length old)) grown_once ∙ take_at first_found objects (length old) (length-map old (λ f. definition_in f.decl))
 
-  abbrev A : List Definition
-  A = flat_map (added_apply W1) (written roots)
+  abbrev methods : List Definition
+  methods = flat_map (added_apply with_objects) (written roots)
 
-  added_applies : definitions_in so.more ≡ A
+  added_applies : definitions_in so.more ≡ methods
   added_applies =
-      so.added ∙ ap (flat_map (added_apply D1)) classes
-      ∙ flat_map_agree (added_apply D1) (added_apply W1) D0 (λ k d lt. same_apply (get_or D0 k d))
-      ∙ flat-only (added_apply W1) is_no_package D0 (no_apply_of W1)
-      ∙ ap (flat_map (added_apply W1)) wrote
+      so.added ∙ ap (flat_map (added_apply middle_found)) classes
+      ∙ flat_map_agree (added_apply middle_found) (added_apply with_objects) first_found (λ k d lt. same_apply (get_or first_found k d))
+      ∙ flat-only (added_apply with_objects) is_no_package first_found (no_apply_of with_objects)
+      ∙ ap (flat_map (added_apply with_objects)) wrote
 
-  pub grown_twice : definitions_in now ≡ D1 ++ A
-  grown_twice = ap definitions_in so.found ∙ definitions_in-append middle so.more ∙ ap (λ ds. D1 ++ ds) added_applies
+  pub grown_twice : definitions_in now ≡ middle_found ++ methods
+  grown_twice = ap definitions_in so.found ∙ definitions_in-append middle so.more ∙ ap (λ ds. middle_found ++ ds) added_applies
 
   pub all_defined : IsPermutation (definitions_in now) (definitions roots)
-  all_defined = subst (λ ds. IsPermutation ds (definitions roots)) (sym grown_twice) (IsPermutation-append_left A D1 W1 mixed_once)
+  all_defined = subst (λ ds. IsPermutation ds (definitions roots)) (sym grown_twice) (IsPermutation-append_left methods middle_found with_objects mixed_once)
 
-  flat_items : flat_map items_of D0 ≡ flat_map items_of W0
+  flat_items : flat_map items_of first_found ≡ flat_map items_of without_objects
   flat_items =
-      flat-only items_of is_no_package D0 package_no_items ∙ ap (flat_map items_of) wrote
+      flat-only items_of is_no_package first_found package_no_items ∙ ap (flat_map items_of) wrote
       ∙ sym (flat_map-append items_of (packages roots) (written roots)
       ∙ ap (λ more. more ++ flat_map items_of (written roots))
       (ap (flat_map items_of) (sym opened)
-      ∙ flat_map_none items_of (filter names_package D0) (All-weaker (λ d. names_package d ≡ true) (λ d. items_of d ≡ [])
-      (λ d h. package_no_items d (ap not h)) (filter names_package D0) (filter_passes names_package D0))))
+      ∙ flat_map_none items_of (filter names_package first_found) (All-weaker (λ d. names_package d ≡ true) (λ d. items_of d ≡ [])
+      (λ d h. package_no_items d (ap not h)) (filter names_package first_found) (filter_passes names_package first_found))))
 
   pub all_items : flat_map items_of (definitions_in now) ≡ flat_map items_of (definitions roots)
   all_items =
-      ap (flat_map items_of) (grown_twice ∙ ap (λ ds. ds ++ A) grown_once)
-      ∙ flat_map-append items_of (D0 ++ C) A ∙ ap (λ more. more ++ flat_map items_of A) (flat_map-append items_of D0 C
-      ∙ ap (λ more. more ++ flat_map items_of C) flat_items ∙ sym (flat_map-append items_of W0 C))
-      ∙ sym (flat_map-append items_of W1 A)
+      ap (flat_map items_of) (grown_twice ∙ ap (λ ds. ds ++ methods) grown_once)
+      ∙ flat_map-append items_of (first_found ++ objects) methods ∙ ap (λ more. more ++ flat_map items_of methods) (flat_map-append items_of first_found objects
+      ∙ ap (λ more. more ++ flat_map items_of objects) flat_items ∙ sym (flat_map-append items_of without_objects objects))
+      ∙ sym (flat_map-append items_of with_objects methods)
 
   pub all_told : (file : ℕ) (d : List Problem) → file < length told
-      → get_or telling file d ≡ get_or told file d ++ flat_map (apply_problems W1) (filter (λ class. class.file == file) (written roots))
+      → get_or telling file d ≡ get_or told file d ++ flat_map (apply_problems with_objects) (filter (λ class. class.file == file) (written roots))
   all_told file d within =
       let of_file : Definition → Bool = λ class. class.file == file in
       so.problems file d within
       ∙ ap (λ more. get_or told file d ++ more)
-      (ap (λ ds. flat_map (apply_problems D1) (filter of_file ds)) classes
-      ∙ flat_map_agree (apply_problems D1) (apply_problems W1) (filter of_file D0) (λ k d lt. same_problem (get_or (filter of_file D0) k d))
-      ∙ flat-filter (apply_problems W1) is_no_package of_file D0 (no_problem_of W1)
-      ∙ ap (λ ds. flat_map (apply_problems W1) (filter of_file ds)) wrote)
+      (ap (λ ds. flat_map (apply_problems middle_found) (filter of_file ds)) classes
+      ∙ flat_map_agree (apply_problems middle_found) (apply_problems with_objects) (filter of_file first_found) (λ k d lt. same_problem (get_or (filter of_file first_found) k d))
+      ∙ flat-filter (apply_problems with_objects) is_no_package of_file first_found (no_problem_of with_objects)
+      ∙ ap (λ ds. flat_map (apply_problems with_objects) (filter of_file ds)) wrote)

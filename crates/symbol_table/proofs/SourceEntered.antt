@@ -188,14 +188,14 @@ module _ (sources : List Source) (file : ℕ) (source : Source) (here : slice_ge
   abbrev root : Tree
   root = source.root
 
-  abbrev D0 : List Definition
-  D0 = definitions_in old.definitions.found.items
+  abbrev first_found : List Definition
+  first_found = definitions_in old.definitions.found.items
 
-  abbrev D1 : List Definition
-  D1 = definitions_in mid.definitions.found.items
+  abbrev middle_found : List Definition
+  middle_found = definitions_in mid.definitions.found.items
 
-  abbrev D2 : List Definition
-  D2 = definitions_in new.definitions.found.items
+  abbrev last_found : List Definition
+  last_found = definitions_in new.definitions.found.items
 
   abbrev own : List Definition
   own = opened_in file [] (openings_of root)
@@ -209,9 +209,9 @@ module _ (sources : List Source) (file : ℕ) (source : Source) (here : slice_ge
   root_here : slice_get roots file ≡ Some root
   root_here = root-here sources file source here
 
-  grown_once : D1 ≡ D0 ++ fresh
+  grown_once : middle_found ≡ first_found ++ fresh
   grown_once = ap definitions_in opened.found ∙ definitions_in-append old.definitions.found.items opened.more
-      ∙ ap (λ ds. D0 ++ ds) (found-as opened.more fresh opened.decls)
+      ∙ ap (λ ds. first_found ++ ds) (found-as opened.more fresh opened.decls)
 
   fresh_packages : All (λ d. names_package d ≡ true) fresh
   fresh_packages = new_kept (λ d. names_package d ≡ true) (paths_of old.definitions.found.items) own (all_packages file [] (openings_of root))
@@ -219,25 +219,25 @@ module _ (sources : List Source) (file : ℕ) (source : Source) (here : slice_ge
   fresh_known : fresh ≡ new_among (map path_to (packages_before roots file)) own
   fresh_known =
       ap (λ known. new_among known own) (paths_to old.definitions.found.items old.definitions.found.items (among old.definitions.found.items first.next))
-      ∙ new-alike (map path_to D0) (map path_to (filter names_package D0)) own (all_packages file [] (openings_of root)) (packages_alike D0)
+      ∙ new-alike (map path_to first_found) (map path_to (filter names_package first_found)) own (all_packages file [] (openings_of root)) (packages_alike first_found)
       ∙ ap (λ ds. new_among (map path_to ds) own) before.packages
 
-  packages-once : filter names_package D1 ≡ packages_before roots (file + 1)
+  packages-once : filter names_package middle_found ≡ packages_before roots (file + 1)
   packages-once =
-      ap (filter names_package) grown_once ∙ filter-append names_package D0 fresh
+      ap (filter names_package) grown_once ∙ filter-append names_package first_found fresh
       ∙ (λ i. before.packages i ++ (filter_all names_package fresh fresh_packages ∙ fresh_known) i)
       ∙ sym (ap (new_among []) (opened-more roots file root root_here) ∙ new_among-append [] (opened_behind 0 (take file roots)) own)
 
-  written-once : filter is_no_package D1 ≡ new_definitions roots (sites_before roots file)
+  written-once : filter is_no_package middle_found ≡ new_definitions roots (sites_before roots file)
   written-once =
-      ap (filter is_no_package) grown_once ∙ filter-append is_no_package D0 fresh
+      ap (filter is_no_package) grown_once ∙ filter-append is_no_package first_found fresh
       ∙ (λ i. before.written i ++ filter_none is_no_package fresh
       (All-weaker (λ d. names_package d ≡ true) (λ d. is_no_package d ≡ false) (λ d h. not_from_true (names_package d) h) fresh fresh_packages) i)
       ∙ append-nil (new_definitions roots (sites_before roots file))
 
-  known-once : (other : Tree) → KnowsBelow D1 (package_of other) (kid_after other [] ∷ []) (of_package_before roots file other)
+  known-once : (other : Tree) → KnowsBelow middle_found (package_of other) (kid_after other [] ∷ []) (of_package_before roots file other)
   known-once other = subst (λ ds. KnowsBelow ds (package_of other) (kid_after other [] ∷ []) (of_package_before roots file other)) (sym grown_once)
-      (Known-packages D0 fresh (package_of other) (kid_after other [] ∷ []) (of_package_before roots file other) fresh_packages (before.known other))
+      (Known-packages first_found fresh (package_of other) (kid_after other [] ∷ []) (of_package_before roots file other) fresh_packages (before.known other))
 
   path_here : owner_steps mid.definitions.found.items innermost ≡ package_of root
   path_here = opened.path ∙ openings-package root
@@ -249,7 +249,7 @@ module _ (sources : List Source) (file : ℕ) (source : Source) (here : slice_ge
   knows = record {
     each = λ kind name outside.
         kinds-by_path mid.definitions.found.items second.next second.apart innermost opened.owner kind name
-        ∙ ap (λ steps. kinds_below D1 steps kind name) path_here
+        ∙ ap (λ steps. kinds_below middle_found steps kind name) path_here
         ∙ (known-once root).each kind name outside;
   }
 
@@ -257,19 +257,19 @@ module _ (sources : List Source) (file : ℕ) (source : Source) (here : slice_ge
       × Knows new.definitions.found.items innermost (kid_after root [] ∷ []) (of_package_before roots file root ++ (out-Tree root).kids)
   turn = entered roots [] [] stands knows
 
-  grown_twice : D2 ≡ D1 ++ more
+  grown_twice : last_found ≡ middle_found ++ more
   grown_twice = ap definitions_in turn.0.found ∙ definitions_in-append mid.definitions.found.items turn.0.more
-      ∙ ap (λ ds. D1 ++ ds) (found-as turn.0.more more turn.0.decls)
+      ∙ ap (λ ds. middle_found ++ ds) (found-as turn.0.more more turn.0.decls)
 
-  packages-twice : filter names_package D2 ≡ packages_before roots (file + 1)
+  packages-twice : filter names_package last_found ≡ packages_before roots (file + 1)
   packages-twice =
-      ap (filter names_package) grown_twice ∙ filter-append names_package D1 more
+      ap (filter names_package) grown_twice ∙ filter-append names_package middle_found more
       ∙ (λ i. packages-once i ++ filter_none names_package more (new-written roots (sites_of file root)) i)
       ∙ append-nil (packages_before roots (file + 1))
 
-  written-twice : filter is_no_package D2 ≡ new_definitions roots (sites_before roots (file + 1))
+  written-twice : filter is_no_package last_found ≡ new_definitions roots (sites_before roots (file + 1))
   written-twice =
-      ap (filter is_no_package) grown_twice ∙ filter-append is_no_package D1 more
+      ap (filter is_no_package) grown_twice ∙ filter-append is_no_package middle_found more
       ∙ (λ i. written-once i ++ filter_all is_no_package more
       (All-weaker (λ d. names_package d ≡ false) (λ d. is_no_package d ≡ true) (λ d h. not_from_false (names_package d) h) more (new-written roots (sites_of file root))) i)
       ∙ sym (ap (new_definitions roots) (sites_before-more roots file root root_here) ∙ new-append roots (sites_before roots file) (sites_of file root))
@@ -281,30 +281,30 @@ module _ (sources : List Source) (file : ℕ) (source : Source) (here : slice_ge
   path_still = ap (λ f. owner_steps f innermost) turn.0.found ∙ owner_steps-more mid.definitions.found.items turn.0.more innermost opened.owner ∙ path_here
 
   known_here : (other : Tree) → is_same_path (package_of root) (package_of other) ≡ true
-      → KnowsBelow D2 (package_of other) (kid_after other [] ∷ []) (of_package_before roots (file + 1) other)
+      → KnowsBelow last_found (package_of other) (kid_after other [] ∷ []) (of_package_before roots (file + 1) other)
   known_here other same =
       let steps : package_of root ≡ package_of other = ap (λ p. p.steps) ((path-exact _ _).0 same) in
       let trees : of_package_before roots (file + 1) other ≡ of_package_before roots file root ++ (out-Tree root).kids =
       earlier-more roots file root other root_here
       ∙ (λ i. flat_map (λ one. kids_if (is_same_path (package_of one) (sym steps i)) one) (take file roots) ++ kids_if (same i) root) in record {
         each = λ kind name outside.
-            ap (λ s. kinds_below D2 s kind name) (sym (path_still ∙ steps))
+            ap (λ s. kinds_below last_found s kind name) (sym (path_still ∙ steps))
             ∙ sym (kinds-by_path new.definitions.found.items third.next third.apart innermost still_owner kind name)
             ∙ turn.1.each kind name outside
             ∙ ap (λ ts. admitted (kinds_of (kid_after root [] ∷ []) kind name ts)) (sym trees);
       }
 
   known_else : (other : Tree) → is_same_path (package_of root) (package_of other) ≡ false
-      → KnowsBelow D2 (package_of other) (kid_after other [] ∷ []) (of_package_before roots (file + 1) other)
+      → KnowsBelow last_found (package_of other) (kid_after other [] ∷ []) (of_package_before roots (file + 1) other)
   known_else other apart =
       let trees : of_package_before roots (file + 1) other ≡ of_package_before roots file other =
       earlier-more roots file root other root_here ∙ ap (λ b. of_package_before roots file other ++ kids_if b root) apart
       ∙ append-nil (of_package_before roots file other) in
-      let steady : KnowsBelow (D1 ++ more) (package_of other) (kid_after other [] ∷ []) (of_package_before roots file other) =
-      Known-outside D1 more (package_of other) (kid_after other [] ∷ []) (of_package_before roots file other)
+      let steady : KnowsBelow (middle_found ++ more) (package_of other) (kid_after other [] ∷ []) (of_package_before roots file other) =
+      Known-outside middle_found more (package_of other) (kid_after other [] ∷ []) (of_package_before roots file other)
       (new-outside roots file root other apart) (known-once other) in
       subst (λ ds. KnowsBelow ds (package_of other) (kid_after other [] ∷ []) (of_package_before roots (file + 1) other)) (sym grown_twice)
-      (subst (λ ts. KnowsBelow (D1 ++ more) (package_of other) (kid_after other [] ∷ []) ts) (sym trees) steady)
+      (subst (λ ts. KnowsBelow (middle_found ++ more) (package_of other) (kid_after other [] ∷ []) ts) (sym trees) steady)
 
   qualifiers-twice : mid.qualifiers ≡ old.qualifiers → new.qualifiers ≡ qualifiers_before sources (file + 1)
   qualifiers-twice same =
