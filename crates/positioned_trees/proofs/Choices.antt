@@ -103,4 +103,4 @@ is_chosen unit offset placed within =
     let all : candidates offset (placed_from 0 unit.root) ≡ root ∷ rest =
     ap (candidates offset) (placed_from-out 0 unit.root) ∙ rw (is_there unit offset placed within) refl in
     let best = IsFirstBest-from_best_of is_order root rest in
-    rw all (record { place = best.0; best = rw all best.1; only = rw all (λ other is. IsFirstBest-unique is_order (root ∷ rest) (length (root ∷ rest)) other best.0 root is best.1); named = λ d. rw all (ap (λ found. found.id) (get_or_default (root ∷ rest) best.0 d root best.1.0 ∙ best.2)) })
+    rw all (record { position = best.0; best = rw all best.1; only = rw all (λ other is. IsFirstBest-unique is_order (root ∷ rest) (length (root ∷ rest)) other best.0 root is best.1); named = λ d. rw all (ap (λ found. found.id) (get_or_default (root ∷ rest) best.0 d root best.1.0 ∙ best.2)) })

@@ -68,10 +68,10 @@ located unit offset = option_map (λ found. found.id) (reduce better_of (candida
 
 -- The one that no candidate beats and that beats each that comes before it in pre-order, and the only one of this kind.
 pub record IsChosen (unit : SourceUnit) (offset id : ℕ) : Type 0 where
-  pub place : ℕ
-  pub best : IsFirstBest beats (candidates offset (placed_from 0 unit.root)) (length (candidates offset (placed_from 0 unit.root))) place
-  pub only : (other : ℕ) → IsFirstBest beats (candidates offset (placed_from 0 unit.root)) (length (candidates offset (placed_from 0 unit.root))) other → other ≡ place
-  pub named : (other : Found) → (slice_index_or (candidates offset (placed_from 0 unit.root)) place other).id ≡ id
+  pub position : ℕ
+  pub best : IsFirstBest beats (candidates offset (placed_from 0 unit.root)) (length (candidates offset (placed_from 0 unit.root))) position
+  pub only : (other : ℕ) → IsFirstBest beats (candidates offset (placed_from 0 unit.root)) (length (candidates offset (placed_from 0 unit.root))) other → other ≡ position
+  pub named : (other : Found) → (slice_index_or (candidates offset (placed_from 0 unit.root)) position other).id ≡ id
 
 -- ---- siblings that do not overlap
 

@@ -8,8 +8,8 @@ pub struct Tree {
     /// The number of trees of its unit before it, in pre-order.
     pub id: u32,
     pub span: Span,
-    /// Whether a place in the source can be this tree's: not so where a rewriting has added the tree, or has
-    /// copied it from a pattern.
+    /// Whether an offset can mean this tree: not so where a rewriting has added the tree, or has copied it from
+    /// a pattern.
     pub opaque: bool,
     pub kind: TreeKind,
     /// The name that it defines or uses, or the text of a literal; empty where the kind has none.
