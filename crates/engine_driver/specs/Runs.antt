@@ -28,14 +28,14 @@ my_findings entries = flat_map my_finding entries
 -- ---- entries
 
 module _ (answer_of : Sources → Call → Answer) (problems_of : Sources → Bytes → List Problem) where
-  -- What the driver may put behind a journal: a settling whose answer is the reply there, or a check with the problems of the
+  -- What the driver may put after a journal: a settling whose answer is the reply there, or a check with the problems of the
   -- file over the sources there.
   abbrev pub IsRight : List Event → Event → Option Answer → Option (List Problem) → Type 0
   IsRight journal (Settle t m) answer problems = answer ≡ Some (reply answer_of journal t m)
   IsRight journal (Checked file) answer problems = problems ≡ Some (problems_of (after journal) file)
   IsRight journal _ answer problems = ⊥
 
-  -- Of these entries, behind this history, each of the driver's is right.
+  -- Of these entries, after this history, each of the driver's is right.
   abbrev pub AreRight : List Entry → List Entry → Type 0
   AreRight before [] = ⊤
   AreRight before (entry ∷ entries) =
