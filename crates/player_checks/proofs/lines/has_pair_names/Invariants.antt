@@ -1,7 +1,7 @@
 use Rattle.std.proofs.Common.{◌≡◌, true, take}
 use Rattle.std.specs.List.{list_all}
 use Rattle.ask_history.specs.Engine.{is_file_name}
-use Rattle.player_checks.proofs.lines.has_entry_names.Given as goal
+use Rattle.player_checks.proofs.lines.has_pair_names.Given as goal
 
-abbrev pub invariant-loop-entry : goal.invariant-loop-entry
-invariant-loop-entry l = list_all (λ entry. is_file_name entry.0) (take l.entry-index l.entries) ≡ true
+abbrev pub invariant-loop-pair : goal.invariant-loop-pair
+invariant-loop-pair l = list_all (λ pair. is_file_name pair.0) (take l.pair-index l.pairs) ≡ true
