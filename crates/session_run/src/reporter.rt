@@ -8,7 +8,7 @@ use report_hub::Reporter;
 use std::alloc::Global;
 use transcript::print_checked;
 
-/// A reporter that writes each entry that it is told on a sink, and keeps it. Where it cannot be written, or memory is
+/// A reporter that writes each finding that it is told on a sink, and keeps it. Where it cannot be written, or memory is
 /// missing, it is not told, and the count of faults rises.
 #[derive(Drop)]
 pub struct SinkReporter<O> {
@@ -38,7 +38,7 @@ fn copies_of(alloc: Global, problems: &[Problem]) -> Result<Row<Problem>, NoMemo
     Ok(copies)
 }
 
-fn write_entry<O: Sink>(
+fn write_finding<O: Sink>(
     alloc: Global,
     out: &mut O,
     file: &Text,
@@ -53,12 +53,12 @@ fn write_entry<O: Sink>(
     }
 }
 
-fn entry_of(
+fn finding_of(
     alloc: Global,
     file: &Text,
     problems: &Row<Problem>,
 ) -> Result<(Text, Row<Problem>), NoMemory>
-    ensures { IfOk result (λ entry. entry ≡ (file.now, problems.now)) }
+    ensures { IfOk result (λ finding. finding ≡ (file.now, problems.now)) }
 {
     Ok((file.clone()?, copies_of(alloc, problems.as_slice())?))
 }
@@ -80,18 +80,18 @@ impl<O: Sink> SinkReporter<O> {
         }
     }
 
-    // Writes an entry and keeps it.
+    // Writes a finding and keeps it.
     fn keep(&mut self, file: &Text, problems: &Row<Problem>) -> Result<(), Failed>
         ensures ok { OnOk result (told_of self.new ≡ told_of self.old ++ (file.now, problems.now) ∷ []) }
         ensures err { OnErr result (told_of self.new ≡ told_of self.old) }
         ensures faults { faults_of self.new ≡ faults_of self.old }
     {
-        let entry = match entry_of(self.alloc, file, problems) {
-            Ok(entry) => entry,
+        let finding = match finding_of(self.alloc, file, problems) {
+            Ok(finding) => finding,
             Err(NoMemory {}) => return Err(Failed {}),
         };
-        write_entry(self.alloc, &mut self.out, file, problems)?;
-        match self.told.push(entry) {
+        write_finding(self.alloc, &mut self.out, file, problems)?;
+        match self.told.push(finding) {
             Ok(()) => Ok(()),
             Err(NoMemory {}) => Err(Failed {}),
         }
