@@ -3,6 +3,7 @@ pub mod DivisionLaws
 pub mod Ends
 pub mod Fitting
 pub mod GapLaws
+pub mod Letters
 pub mod Marks
 pub mod NumberLaws
 pub mod PieceLemmas

@@ -53,11 +53,13 @@ fn is_space(c: char) -> bool
     c == ' ' || c == '\t' || c == '\r' || c == '\n' || c == '\x0c'
 }
 
+#[inline(always)]
 #[tactic(auto, unfolding(crate::specs::Characters::class_of))]
 pub fn class_of(c: char) -> Class
     ensures { result ≡ spec.class_of c }
 {
     match c {
+        'A'..='Z' | 'a'..='z' => Class::Letter,
         ' ' | '\t' | '\r' | '\n' | '\x0c' => Class::Space,
         '0'..='9' => Class::Digit,
         '\'' => Class::Apostrophe,
@@ -99,6 +101,7 @@ pub fn is_letter_or_digit(class: Class) -> bool
     matches!(class, Class::Letter | Class::Digit)
 }
 
+#[inline(always)]
 #[tactic(auto, unfolding(crate::specs::Characters::in_run))]
 pub fn in_run(run: Run, c: char) -> bool
     ensures { result ≡ spec.in_run run c }
@@ -115,6 +118,7 @@ pub fn in_run(run: Run, c: char) -> bool
 }
 
 /// The first character of a text, and the text after it.
+#[inline(always)]
 pub fn first(text: &str) -> Option<(char, &str)>
     ensures value { MatchOption result (chars text.now ≡ []) (λ p. chars text.now ≡ p.0 ∷ chars p.1.now) }
     ensures shorter { IfSome result (λ p. length p.1.now < length text.now) }
@@ -126,6 +130,7 @@ pub fn first(text: &str) -> Option<(char, &str)>
 }
 
 /// The text from its first character on that is not of the run.
+#[inline(always)]
 pub fn past(run: Run, text: &str) -> &str
     ensures value { chars result.now ≡ spec.past run (chars text.now) }
     ensures within { length result.now ≤ length text.now }
@@ -140,6 +145,7 @@ pub fn past(run: Run, text: &str) -> &str
     rest
 }
 
+#[inline(always)]
 pub fn next_is(c: char, text: &str) -> bool
     ensures { result ≡ spec.next_is c (chars text.now) }
 {

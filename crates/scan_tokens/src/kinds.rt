@@ -1,55 +1,13 @@
 //! What kind of token a piece is, by its shape and its bytes (SLS 1.1, 1.3).
 
-ghost use Rattle.std.specs.Prelude.{◌≡◌, ◌<◌, true, length, map};
+ghost use Rattle.std.specs.Prelude.{◌≡◌, ◌<◌, ◌∷◌, true, length, map};
 ghost use Rattle.std.specs.Char.{is_ascii_digit, is_ascii_hexdigit};
 ghost use Rattle.std.specs.List.{list_all};
 ghost use Rattle.scan_tokens.specs.Kinds as spec;
+ghost use Rattle.scan_tokens.specs.Words.{Bytes};
 
 use crate::shapes::Shape;
 use crate::tokens::TokenKind;
-
-const RESERVED_WORDS: [&[u8]; 40] = [
-    b"abstract",
-    b"case",
-    b"catch",
-    b"class",
-    b"def",
-    b"do",
-    b"else",
-    b"extends",
-    b"false",
-    b"final",
-    b"finally",
-    b"for",
-    b"forSome",
-    b"if",
-    b"implicit",
-    b"import",
-    b"lazy",
-    b"macro",
-    b"match",
-    b"new",
-    b"null",
-    b"object",
-    b"override",
-    b"package",
-    b"private",
-    b"protected",
-    b"return",
-    b"sealed",
-    b"super",
-    b"this",
-    b"throw",
-    b"trait",
-    b"true",
-    b"try",
-    b"type",
-    b"val",
-    b"var",
-    b"while",
-    b"with",
-    b"yield",
-];
 
 /// The last two are U+21D2 for `=>` and U+2190 for `<-`.
 const RESERVED_SIGNS: [&[u8]; 12] = [
@@ -79,19 +37,55 @@ pub fn is_among(mut words: &[&[u8]], word: &[u8]) -> bool
     false
 }
 
-/// Whether these bytes are a reserved word (SLS 1.1). Reserved signs are none.
+/// The reserved words that begin with a byte.
 #[tactic(auto, unfolding(crate::specs::Kinds::is_reserved_word, crate::specs::Words::reserved_words))]
+fn words_from(first: u8) -> &'static [&'static [u8]]
+    ensures { (rest : Bytes) → spec.is_among (map (λ w. w.now) result.now) (first ∷ rest) ≡ spec.is_reserved_word (first ∷ rest) }
+{
+    match first {
+        b'a' => &[b"abstract"],
+        b'c' => &[b"case", b"catch", b"class"],
+        b'd' => &[b"def", b"do"],
+        b'e' => &[b"else", b"extends"],
+        b'f' => &[b"false", b"final", b"finally", b"for", b"forSome"],
+        b'i' => &[b"if", b"implicit", b"import"],
+        b'l' => &[b"lazy"],
+        b'm' => &[b"macro", b"match"],
+        b'n' => &[b"new", b"null"],
+        b'o' => &[b"object", b"override"],
+        b'p' => &[b"package", b"private", b"protected"],
+        b'r' => &[b"return"],
+        b's' => &[b"sealed", b"super"],
+        b't' => &[b"this", b"throw", b"trait", b"true", b"try", b"type"],
+        b'v' => &[b"val", b"var"],
+        b'w' => &[b"while", b"with"],
+        b'y' => &[b"yield"],
+        _ => &[],
+    }
+}
+
+/// Whether these bytes are a reserved word (SLS 1.1). Reserved signs are none.
 pub fn is_reserved_word(word: &[u8]) -> bool
     ensures { result ≡ spec.is_reserved_word word.now }
 {
-    is_among(&RESERVED_WORDS, word)
+    match word {
+        [first, ..] => is_among(words_from(*first), word),
+        [] => false,
+    }
 }
 
+#[inline(always)]
 #[tactic(auto, unfolding(crate::specs::Kinds::is_reserved_sign, crate::specs::Words::reserved_signs))]
 fn is_reserved_sign(word: &[u8]) -> bool
     ensures { result ≡ spec.is_reserved_sign word.now }
 {
-    is_among(&RESERVED_SIGNS, word)
+    match word {
+        [b'_' | b':' | b'=' | b'<' | b'>' | b'#' | b'@' | 0xe2, ..] => is_among(
+            &RESERVED_SIGNS,
+            word,
+        ),
+        _ => false,
+    }
 }
 
 #[tactic(auto, unfolding(crate::specs::Kinds::is_reserved))]

@@ -1,13 +1,14 @@
 //! Before which tokens a newline counts (SLS 1.2).
 
-ghost use Rattle.std.specs.Prelude.{◌≡◌, ◌≤◌, length, [], false, IfOk};
+ghost use Rattle.std.specs.Prelude.{◌≡◌, ◌≤◌, List, length, [], false, IfOk};
 ghost use Rattle.scan_tokens.specs.Characters.{is_space};
 ghost use Rattle.scan_tokens.specs.Newlines as spec;
 ghost use Rattle.scan_tokens.specs.Order.{AreInOrder};
+ghost use Rattle.scan_tokens.specs.declared.regions.Region.{Region};
 ghost use Rattle.scan_tokens.specs.declared.tokens.Newline.TheVariants.{No};
 
 use crate::regions::Regions;
-use crate::roles::{can_begin, can_end, is_template, role_at};
+use crate::roles::{Role, can_begin, can_end, is_template, role_at};
 use crate::tokens::{Newline, Token};
 use pc_terms::{NoMemory, Row};
 use std::alloc::Global;
@@ -62,6 +63,18 @@ fn template_follows(text: &[u8], tokens: &[Token], at: u32) -> bool
     }
 }
 
+/// Whether this is the `case` of a `case class` or `case object`. Of no other role does it matter what follows.
+fn case_of_template(role: Role, text: &[u8], tokens: &[Token], at: u32) -> bool
+    requires { AreInOrder (length text.now) at tokens.now }
+    ensures begins { spec.can_begin role result ≡ spec.can_begin role (spec.template_follows text.now tokens.now) }
+    ensures turns { (rs : List Region) → spec.turned role result rs ≡ spec.turned role (spec.template_follows text.now tokens.now) rs }
+{
+    match role {
+        Role::Case => template_follows(text, tokens, at),
+        _ => false,
+    }
+}
+
 /// The tokens of a text, with the newlines that count before them.
 pub fn with_newlines(alloc: Global, text: &[u8], tokens: &[Token]) -> Result<Row<Token>, NoMemory>
     requires { AreInOrder (length text.now) 0 tokens.now }
@@ -74,7 +87,7 @@ pub fn with_newlines(alloc: Global, text: &[u8], tokens: &[Token]) -> Result<Row
     let mut left = tokens;
     while let [token, rest @ ..] = left {
         let role = role_at(text, token);
-        let template = template_follows(text, rest, token.span.end);
+        let template = case_of_template(role, text, rest, token.span.end);
         let counts = ended && can_begin(role, template) && regions.enable();
         let before = if counts {
             newline_in(&text[end as usize..token.span.start as usize])

@@ -8,6 +8,7 @@ use crate::characters::{bytes_up_to, offset};
 use crate::kinds::kind_of;
 use crate::problems::{add_problems, fault_of};
 use crate::reading::read;
+use crate::shapes::Shape;
 use crate::tokens::{Newline, Token, TokenKind};
 use pc_terms::{NoMemory, Problem, Row, Span};
 use std::alloc::Global;
@@ -54,9 +55,15 @@ fn add_piece<'a>(
     ensures moves { IfOk result (λ after. 0 < length rest.now → length after.now < length rest.now) }
 {
     let (shape, after) = read(rest);
+    if matches!(shape, Shape::Space) {
+        return Ok(after);
+    }
     let bytes = bytes_up_to(rest, after);
     let span = span_of(total, rest, after);
     add_token(tokens, kind_of(shape, bytes), span)?;
+    if matches!(shape, Shape::Plain | Shape::Operator | Shape::Delimiter) {
+        return Ok(after);
+    }
     add_problems(
         alloc,
         problems,

@@ -61,6 +61,10 @@ pub enum Role {
 fn word_role(word: &[u8]) -> Role
     ensures { result ≡ spec.word_role word.now }
 {
+    // With these letters no word begins that is in one of the lists.
+    if let [b'a' | b'd' | b'i' | b'l' | b'p' | b's' | b'v', ..] = word {
+        return Role::Begins;
+    }
     if is_among(&ENDING_WORDS, word) {
         Role::Ends
     } else if is_among(&CONTINUING_WORDS, word) {
@@ -104,6 +108,7 @@ fn delimiter_role(delimiter: &[u8]) -> Role
     }
 }
 
+#[inline(always)]
 fn role_of(kind: TokenKind, bytes: &[u8]) -> Role
     ensures { result ≡ spec.role_of kind bytes.now }
 {
@@ -122,6 +127,7 @@ fn role_of(kind: TokenKind, bytes: &[u8]) -> Role
 }
 
 /// What a token of the text does.
+#[inline(always)]
 #[tactic(auto, unfolding(crate::specs::Newlines::role_at))]
 pub fn role_at(text: &[u8], token: &Token) -> Role
     requires { IsWithin (length text.now) token.now.span }
