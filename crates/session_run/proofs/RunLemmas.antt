@@ -143,20 +143,20 @@ pub run_refused : (answer_of : Sources → Call → Answer) (problems_of : Sourc
     → HasInput (mode_of words) content (schedule_of words) None ended → CountsReads ended seen.read_faults seen.read_faults' seen.last_failed'
     → seen.put_faults' ≡ seen.put_faults → seen.out' ≡ seen.out → seen.engine' ≡ seen.engine → seen.reporter' ≡ seen.reporter → IsRun answer_of problems_of content words seen ended []
 run_refused answer_of problems_of content words seen ended input reads puts out engine reporter =
-  let reading = told_reads ended seen.read_faults seen.read_faults' seen.last_failed' reads in record {
-  began = None;
-  input = input;
-  ran = refl;
-  legal = refl;
-  settled = refl;
-  output = subst (λ (now : Option Bytes). Wrote [] ended seen.out now) (sym out) (no_output (mode_of words) content (schedule_of words) ended seen.out input);
-  reading = reading;
-  named = names_refused (mode_of words) content (schedule_of words) ended input;
-  writing = no_write_fault (mode_of words) content (schedule_of words) ended seen.put_faults seen.put_faults' input puts;
-  complete = completes_refused content words seen ended input reading;
-  reported = subst (λ (now : ReporterState). WasToldMost [] seen.reporter now) (sym reporter) (WasToldMost-none seen.reporter);
-  engine = engine;
-}
+    let reading = told_reads ended seen.read_faults seen.read_faults' seen.last_failed' reads in record {
+      began = None;
+      input = input;
+      ran = refl;
+      legal = refl;
+      settled = refl;
+      output = subst (λ (now : Option Bytes). Wrote [] ended seen.out now) (sym out) (no_output (mode_of words) content (schedule_of words) ended seen.out input);
+      reading = reading;
+      named = names_refused (mode_of words) content (schedule_of words) ended input;
+      writing = no_write_fault (mode_of words) content (schedule_of words) ended seen.put_faults seen.put_faults' input puts;
+      complete = completes_refused content words seen ended input reading;
+      reported = subst (λ (now : ReporterState). WasToldMost [] seen.reporter now) (sym reporter) (WasToldMost-none seen.reporter);
+      engine = engine;
+    }
 
 -- ---- the line for the user may end a refused run out of memory
 

@@ -68,7 +68,7 @@ returns-in-None-clause-goes_on g c = λ go. record {
   behind = c.take_next.ensures.adds.behind;
   cancelled = None;
   first = sym (ap (find (is_cancelled (journal_of (g.B.Board.history c.look-news.new.self)))) c.as_slice.ensures.value) ∙ sym c.look-news.ensures.cancelled ∙ c.in-None.is;
-  does = inl (omega (arith, c.look-news.ensures.accepted_calls, c.in-None.guard), c.take_next.ensures.next);
+  does = inl (omega arith, c.take_next.ensures.next);
 }
 
 pub returns-in-None-2-clause-goes_on : goal.returns-in-None-2-clause-goes_on
@@ -79,5 +79,5 @@ returns-in-None-2-clause-goes_on g c = λ go. record {
   behind = c.turn.ensures.made.adds.behind;
   cancelled = None;
   first = sym (ap (find (is_cancelled (journal_of (g.B.Board.history c.look-news.new.self)))) c.as_slice.ensures.value) ∙ sym c.look-news.ensures.cancelled ∙ c.in-None-2.is;
-  does = inr (omega (arith, c.look-news.ensures.accepted_calls), c.turn.ensures.goes_on);
+  does = inr (omega arith, c.turn.ensures.goes_on);
 }
