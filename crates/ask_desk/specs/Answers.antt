@@ -25,7 +25,7 @@ abbrev pub answer_of : List Entry → ℕ → Option Answer
 answer_of [] ticket = None
 answer_of (entry ∷ history) ticket = if settles ticket entry.event then found_answer entry.found else answer_of history ticket
 
--- whether this author may make an event, before the shutdown or behind it: checks are the engine's, and so are settlings
+-- whether this author may make an event, before the shutdown or after it: checks are the engine's, and so are settlings
 -- before the shutdown
 abbrev pub may_make : Bool → Event → ℕ → Bool
 may_make closed (Checked file) author = author == engine_number
@@ -45,7 +45,7 @@ callers_find _ = Nothing
 abbrev pub caller_entry : Name → Event → Entry
 caller_entry name event = entry_of name event (callers_find event)
 
--- a view that has put these events of a caller behind what it had seen
+-- a view that has put these events of a caller after what it had seen
 abbrev pub written : View → List Event → View
 written view [] = view
 written view (event ∷ events) = written (appended view (caller_entry view.name event)) events

@@ -24,7 +24,7 @@ use Rattle.ask_desk.specs.declared.driving.News.{News}
 use Rattle.ask_desk.specs.declared.driving.CheckNoted.{CheckNoted}
 use Rattle.ask_desk.specs.declared.driving.CheckNoted.TheVariants.{Noted, ShutDown, NoMemory}
 
--- What others did behind what the engine's pass had seen: nothing of it is the engine's, and none of it is a check, or a
+-- What others did after what the engine's pass had seen: nothing of it is the engine's, and none of it is a check, or a
 -- settling before the shutdown.
 pub record IsLater (old now : List Entry) : Type 0 where
   pub others : List Entry
@@ -32,7 +32,7 @@ pub record IsLater (old now : List Entry) : Type 0 where
   pub theirs : entries_by engine_number others ≡ []
   pub kinds : IsTrue (are_others (is_closed (journal_of old)) (journal_of others))
 
--- What the engine's pass has seen after a call under the lock that put these entries of its own behind `before`.
+-- What the engine's pass has seen after a call under the lock that put these entries of its own after `before`.
 pub record Works (old : View) (before entries : List Entry) (new : View) : Type 0 where
   pub moves : Moves old new
   pub later : IsLater old.seen before
@@ -42,12 +42,12 @@ pub record Works (old : View) (before entries : List Entry) (new : View) : Type 
   pub got : new.name.got ≡ old.name.got
   pub legal : IsTrue (is_legal (journal_of new.seen))
 
--- the settling of a ticket behind a journal: its answer is the reply there, with what was found in the value's place
+-- the settling of a ticket after a journal: its answer is the reply there, with what was found in the value's place
 abbrev pub settled_as : Name → List Event → ℕ → Settling → Entry
 settled_as name journal ticket what =
     entry_of name (Settle ticket (mark_of what)) (Answered (reply (λ files call. value_of what) journal ticket (mark_of what)))
 
--- The settling of a ticket by the engine; none behind the shutdown, where every call is settled.
+-- The settling of a ticket by the engine; none after the shutdown, where every call is settled.
 abbrev pub settling : Name → List Event → ℕ → Settling → List Entry
 settling name journal ticket what = if is_closed journal then [] else settled_as name journal ticket what ∷ []
 
@@ -61,7 +61,7 @@ pub record Settles (old new : View) (ticket : ℕ) (what : Settling) (effect : E
 abbrev pub checking : Name → Bytes → List Problem → Entry
 checking name file problems = entry_of name (Checked file) (Problems problems)
 
--- A check is noted, or not: behind the shutdown, or out of memory.
+-- A check is noted, or not: after the shutdown, or out of memory.
 abbrev pub ChecksBehind : List Entry → View → View → Bytes → List Problem → CheckNoted → Type 0
 ChecksBehind before old new file problems Noted = (is_closed (journal_of before) ≡ false) × Works old before (checking old.name file problems ∷ []) new
 ChecksBehind before old new file problems ShutDown = (is_closed (journal_of before) ≡ true) × Works old before [] new

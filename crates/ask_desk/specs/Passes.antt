@@ -28,7 +28,7 @@ pub record Moves (old new : View) : Type 0 where
   pub number : new.name.number ≡ old.name.number
   pub made : new.name.made ≡ old.name.made
 
--- What a pass has seen after a call under the lock that appended these events of its own, behind `before`.
+-- What a pass has seen after a call under the lock that appended these events of its own, after `before`.
 pub record Writes (old : View) (before : List Entry) (events : List Event) (new : View) : Type 0 where
   pub moves : Moves old new
   pub seen : new.seen ≡ before ++ entries_for old.name events

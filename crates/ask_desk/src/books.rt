@@ -33,7 +33,7 @@ pub struct Books {
 }
 
 impl Books {
-    /// Accepts a call, and puts it behind the history in the name of the seat, which leads.
+    /// Accepts a call, and puts it at the end of the history in the name of the seat, which leads.
     pub fn accept<B: Room>(
         &mut self,
         alloc: Global,
@@ -95,7 +95,7 @@ impl Books {
         }
     }
 
-    /// Cancels a call, and puts the cancel behind the history in the name of the seat, which leads.
+    /// Cancels a call, and puts the cancel at the end of the history in the name of the seat, which leads.
     pub fn cancel<B: Room>(
         &mut self,
         counter: &Counter<B>,
@@ -198,8 +198,8 @@ impl Books {
         }
     }
 
-    /// Shuts the session down, unless it is shut down, and puts that behind the history in the name of the seat, which
-    /// leads. Gives the journal index of the shutdown.
+    /// Shuts the session down, unless it is shut down, and puts that at the end of the history in the name of the seat,
+    /// which leads. Gives the journal index of the shutdown.
     pub fn close<B: Room>(&mut self, counter: &Counter<B>, seat: &mut Seat<B>) -> u64
         requires leads { seat.old.leads ≡ true }
         requires named { IsTrue (is_some seat.old.name.number) }
@@ -223,7 +223,7 @@ impl Books {
     }
 }
 
-/// Puts the events of a shutdown behind the history.
+/// Puts the events of a shutdown at the end of the history.
 fn write_shutdown<B: Room>(
     counter: &Counter<B>,
     seat: &mut Seat<B>,
@@ -246,7 +246,7 @@ fn write_shutdown<B: Room>(
     }
 }
 
-/// Puts the settlings of a shutdown behind the history, and the answers into their cells.
+/// Puts the settlings of a shutdown at the end of the history, and the answers into their cells.
 fn write_settlings<B: Room>(
     counter: &Counter<B>,
     seat: &mut Seat<B>,

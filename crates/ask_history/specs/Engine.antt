@@ -36,7 +36,7 @@ fresh_state = record { sources = []; asks = []; staged = None; checked = []; ski
 
 -- the texts of a call are no longer than a file may be
 abbrev pub HasFileSizes : Call → Type 0
-HasFileSizes (Reload entries) = All (λ entry. length entry.1 ≤ max_source_bytes) entries
+HasFileSizes (Reload pairs) = All (λ pair. length pair.1 ≤ max_source_bytes) pairs
 HasFileSizes _ = ⊤
 
 -- a name that a file may have: it is not empty and does not begin with `<`, as the name of the prelude does
@@ -65,7 +65,7 @@ asked_file call = (asked call).file
 
 -- every file that a call names has a name that a file may have
 abbrev pub has_file_names : Call → Bool
-has_file_names (Reload entries) = list_all (λ entry. is_file_name entry.0) entries
+has_file_names (Reload pairs) = list_all (λ pair. is_file_name pair.0) pairs
 has_file_names (Remove names) = list_all is_file_name names
 has_file_names ask = is_file_name (asked_file ask)
 

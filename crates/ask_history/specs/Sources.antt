@@ -18,16 +18,16 @@ text_of (file ∷ files) name = if bytes_eq name file.0 then Some file.1 else te
 abbrev pub is_loaded : Sources → Bytes → Bool
 is_loaded files name = list_any (λ file. bytes_eq name file.0) files
 
--- A new text for a file: in its place where it is loaded, and last where it is not.
+-- A new text for a file: at its position where it is loaded, and last where it is not.
 abbrev pub put_file : Sources → Bytes × Bytes → Sources
-put_file [] entry = entry ∷ []
-put_file (file ∷ files) entry =
-    if bytes_eq entry.0 file.0 then (file.0, entry.1) ∷ files else file ∷ put_file files entry
+put_file [] pair = pair ∷ []
+put_file (file ∷ files) pair =
+    if bytes_eq pair.0 file.0 then (file.0, pair.1) ∷ files else file ∷ put_file files pair
 
 -- New texts, one after another: the later of two of one name replaces the earlier.
 abbrev pub reloaded : Sources → List (Bytes × Bytes) → Sources
 reloaded files [] = files
-reloaded files (entry ∷ entries) = reloaded (put_file files entry) entries
+reloaded files (pair ∷ pairs) = reloaded (put_file files pair) pairs
 
 -- Without the files of these names. A name that is not loaded is passed over.
 abbrev pub removed : Sources → List Bytes → Sources
@@ -35,13 +35,13 @@ removed files names = filter (λ file. not (list_any (bytes_eq file.0) names)) f
 
 -- The calls that change the sources; the others are asks.
 abbrev pub is_mutation : Call → Bool
-is_mutation (Reload entries) = true
+is_mutation (Reload pairs) = true
 is_mutation (Remove names) = true
 is_mutation _ = false
 
 -- The sources after a mutation took effect. An ask leaves them.
 abbrev pub mutated : Sources → Call → Sources
-mutated files (Reload entries) = reloaded files entries
+mutated files (Reload pairs) = reloaded files pairs
 mutated files (Remove names) = removed files names
 mutated files _ = files
 

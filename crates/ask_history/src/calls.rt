@@ -4,7 +4,7 @@ use pc_terms::{Row, Text};
 /// others are asks. A file's name is not empty and does not begin with `<`; an offset counts bytes.
 #[derive(Debug, Drop)]
 pub enum Call {
-    /// Names and their new texts. A loaded file keeps its place; a new one goes last.
+    /// Names and their new texts. A loaded file keeps its position in load order; a new one goes last.
     Reload(Row<(Text, Text)>),
     /// Names of files, of which those that are loaded are taken out.
     Remove(Row<Text>),

@@ -45,7 +45,7 @@ pub fn law_accepted_tickets()
     ensures settled { (journal : List Event) → IsTrue (is_legal journal) → (t : ℕ) → IsTrue (is_settled journal t) → IsTrue (is_some (call_of journal t)) }
 {}
 
-/// A settling stands behind none of its ticket.
+/// A settling stands after none of its ticket.
 pub fn law_settled_once()
     ensures { (journal : List Event) (t : ℕ) (mark : Mark) → IsTrue (may_follow journal (Settle t mark)) → is_settled journal t ≡ false }
 {}

@@ -40,13 +40,13 @@ has_come c journal (order.Cancel number) = is_ended c journal number
 has_come c journal order.Close = is_closed journal
 has_come c journal _ = true
 
--- A client is behind these lines of its script, where a journal stands so: its accepted calls are those of these lines, and
+-- A client is past these lines of its script, where a journal stands so: its accepted calls are those of these lines, and
 -- what the lines wait for has come.
 pub record Stands (c : ℕ) (journal : List Event) (above : List Line) : Type 0 where
   pub calls : calls_of c journal ≡ call_lines 1 above
   pub come : list_all (λ line. has_come c journal line.order) above ≡ true
 
--- A line of the script has this order, and the client is behind the lines above it.
+-- A line of the script has this order, and the client is past the lines above it.
 pub record IsAtLine (c : ℕ) (lines : List Line) (journal : List Event) (meant : Order) : Type 0 where
   pub above : List Line
   pub line : Line

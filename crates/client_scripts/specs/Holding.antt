@@ -34,7 +34,7 @@ module _ {T : Type 0} (number_of : T → ℕ) where
     pub apart : (i j t : ℕ) → ticket_at pass i ≡ Some t → ticket_at pass j ≡ Some t → i ≡ j
     pub below : (i t : ℕ) → ticket_at pass i ≡ Some t → t < accepted (journal_of pass.history)
 
-  -- A client is behind these lines of its script, or the session is shut down.
+  -- A client is past these lines of its script, or the session is shut down.
   pub record IsPlaying (c : ℕ) (lines above : List Line) (pass : PassState) (client : Client T) : Type 0 where
     pub named : pass.number ≡ c
     pub holding : IsHolding pass client.held.items

@@ -21,7 +21,7 @@ abbrev pub call_lines : ℕ → List Line → List (ℕ × Call)
 call_lines number [] = []
 call_lines number (line ∷ lines) = call_under number line.order ++ call_lines (number_after line.order number) lines
 
--- the number of the next call line behind these
+-- the number of the next call line after these
 abbrev pub next_number : ℕ → List Line → ℕ
 next_number number [] = number
 next_number number (line ∷ lines) = next_number (number_after line.order number) lines
@@ -33,7 +33,7 @@ is_close_line _ = false
 abbrev pub has_close : List Line → Bool
 has_close lines = list_any (λ line. is_close_line line.order) lines
 
--- Each line may stand behind those above it in a client's script: a `cancel` and a `wait` name a call line above.
+-- Each line may stand after those above it in a client's script: a `cancel` and a `wait` name a call line above.
 abbrev pub AreMeant : List Line → Type 0
 AreMeant lines = (above below : List Line) (line : Line) → lines ≡ above ++ line ∷ below → is_meant kind.Client above line.order ≡ true
 

@@ -55,5 +55,5 @@ pub record OfScripts (scripts : List Script) (journal : List Event) : Type 0 whe
   pub shut : journal ≡ before ++ Close ∷ behind
   -- Where no script has a `close`, every call line is accepted and settled before.
   pub finished : some_close scripts ≡ false → (c : ℕ) (script : Script) → slice_get scripts c ≡ Some script → is_finished c before script.lines ≡ true
-  -- Else a script has one, and it stands behind what the lines above that wait for.
+  -- Else a script has one, and it stands after what the lines above that wait for.
   pub closer : some_close scripts ≡ true → IsAtClose scripts before

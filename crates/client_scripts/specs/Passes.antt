@@ -36,11 +36,11 @@ made_by c event = record { event = event; author = c; answer = None }
 abbrev pub closed_by : ℕ → ℕ → Entry
 closed_by c ticket = record { event = Settle ticket mark.Done; author = c; answer = Some answer.Closed }
 
--- what a client's shutdown puts behind a journal: Close where none stands, and then the settlings of the open tickets
+-- what a client's shutdown puts after a journal: Close where none stands, and then the settlings of the open tickets
 abbrev pub closing_by : ℕ → List Event → List Entry
 closing_by c journal = if is_closed journal then [] else made_by c Close ∷ map (closed_by c) (open_tickets journal)
 
--- A pass wrote these entries behind what others did.
+-- A pass wrote these entries after what others did.
 pub record Writes (old : PassState) (before entries : List Entry) (new : PassState) : Type 0 where
   pub later : IsLater old.number old.history before
   pub written : new ≡ seeing old (before ++ entries)

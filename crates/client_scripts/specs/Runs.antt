@@ -14,8 +14,8 @@ use Rattle.client_scripts.specs.Clients.{calls_of, Stands, IsAtLine}
 use Rattle.client_scripts.specs.OfScripts.{is_finished}
 use Rattle.client_scripts.specs.History.{Entry, journal_of, signed_journal, answer_of, IsLater}
 
--- An event that a client may make behind this history: that of a line of its script, behind what the lines above it wait for;
--- or, behind the shutdown, a settling, with the answer that the session is shut down.
+-- An event that a client may make after this history: that of a line of its script, after what the lines above it wait for;
+-- or, after the shutdown, a settling, with the answer that the session is shut down.
 abbrev pub IsRight : ℕ → List Line → List Entry → Event → Option Answer → Type 0
 IsRight c lines before (Accept t client tag call) found =
     (client ≡ c) × ((line : IsAtLine c lines (signed_journal before) (order.Call call)) × (tag ≡ next_number 1 line.above))
@@ -25,7 +25,7 @@ IsRight c lines before Close found = IsAtLine c lines (signed_journal before) or
 IsRight c lines before (Settle t mark) found = (is_closed (journal_of before) ≡ true) × (found ≡ Some answer.Closed)
 IsRight c lines before (Checked file) found = ⊥
 
--- Of these entries, behind this history, each of the client's is right.
+-- Of these entries, after this history, each of the client's is right.
 abbrev pub AreRight : ℕ → List Line → List Entry → List Entry → Type 0
 AreRight c lines before [] = ⊤
 AreRight c lines before (entry ∷ entries) = (entry.author ≡ c → IsRight c lines before entry.event entry.answer) × AreRight c lines (before ++ entry ∷ []) entries
@@ -34,7 +34,7 @@ AreRight c lines before (entry ∷ entries) = (entry.author ≡ c → IsRight c 
 abbrev pub Runs : ℕ → List Line → List Entry → Type 0
 Runs c lines history = AreRight c lines [] history
 
--- A client has played its script: the session is shut down, or the client is behind all lines, and every call is settled.
+-- A client has played its script: the session is shut down, or the client is past all lines, and every call is settled.
 abbrev pub HasEnded : ℕ → List Line → List Entry → Type 0
 HasEnded c lines history =
     (is_closed (journal_of history) ≡ true)
@@ -54,7 +54,7 @@ pub record Played (c : ℕ) (lines : List Line) (seen history : List Entry) : Ty
   pub ended : HasEnded c lines seen
   pub later : IsLater c seen history
 
--- What a pass of no client may make behind this history: it posts and cancels nothing, and shuts the session down only behind
+-- What a pass of no client may make after this history: it posts and cancels nothing, and shuts the session down only after
 -- what each client has seen.
 abbrev pub IsServants : List Script → (ℕ → List Entry) → List Entry → Event → Type 0
 IsServants scripts seen before (Accept t client tag call) = ⊥

@@ -17,12 +17,12 @@ abbrev pub asks_of : List (Ticketed Task) → List (ℕ × Call)
 asks_of [] = []
 asks_of (ticketed ∷ above) = (ticketed.ticket, ticketed.task.call) ∷ asks_of above
 
-abbrev pub entries_of : List NewFile → List (Bytes × Bytes)
-entries_of [] = []
-entries_of (file ∷ files) = (file.name, file.source.text) ∷ entries_of files
+abbrev pub pairs_of : List NewFile → List (Bytes × Bytes)
+pairs_of [] = []
+pairs_of (file ∷ files) = (file.name, file.source.text) ∷ pairs_of files
 
 abbrev pub call_of : Change → Call
-call_of (Reload files) = call.Reload (entries_of files.items)
+call_of (Reload files) = call.Reload (pairs_of files.items)
 call_of (Remove removal) = call.Remove removal.names
 
 -- the call that is staged, with its ticket

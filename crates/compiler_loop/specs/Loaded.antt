@@ -34,7 +34,7 @@ abbrev pub TakesDue : Option Bytes → Outcome → (due left : List Bytes) → (
 TakesDue None outcome due left outcomes told = (due ≡ []) × (left ≡ []) × (told ≡ outcomes)
 TakesDue (Some name) outcome due left outcomes told = (due ≡ name ∷ left) × (told ≡ outcomes ++ outcome ∷ [])
 
--- the files that are due are those behind the ones with an outcome
+-- the files that are due are those after the ones with an outcome
 pub record AreAhead (due : List Bytes) (outcomes : List Outcome) (names : List Bytes) : Type 0 where
   pub rest : due ≡ drop (length outcomes) names
   pub count : length outcomes ≤ length names

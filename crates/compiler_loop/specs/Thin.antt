@@ -56,7 +56,7 @@ type_of (v ∷ vals) name = if bytes_eq v.name name then Some v.of else type_of 
 abbrev pub is_new : List ThinVal → Bytes → Bool
 is_new vals name = is_identifier name && not (is_some (type_of vals name))
 
--- plain bytes, and a `"` behind them
+-- plain bytes, and a `"` after them
 unfoldable pub is_closed : Bytes → Bool
 is_closed bytes = nat_lt 0 (length bytes) && slice_index bytes (length bytes - 1) == 34 && list_all is_plain (take (length bytes - 1) bytes)
 
@@ -65,14 +65,14 @@ unfoldable pub is_string : Bytes → Bool
 is_string [] = false
 is_string (b ∷ bs) = b == 34 && is_closed bs
 
--- the type of a right side, where it is one behind these vals
+-- the type of a right side, where it is one after these vals
 unfoldable pub right_type : List ThinVal → Bytes → Option ValType
 right_type vals right =
     if is_string right then Some val_type.String
     else (if is_number right then Some val_type.Int
     else (if is_identifier right then type_of vals right else None))
 
--- ---- vals, each behind those before it
+-- ---- vals, each after those before it
 
 abbrev pub refers_to : Bytes → Option Bytes
 refers_to right = if is_identifier right then Some right else None
@@ -90,7 +90,7 @@ made_val name start right_start right of = record {
 abbrev pub right_at : Bytes → ℕ → Bytes
 right_at text at = take (right_len (drop at text)) (drop at text)
 
--- where the right side stands, behind a name of so many letters
+-- where the right side stands, after a name of so many letters
 abbrev pub right_start : ℕ → Bytes → ℕ
 right_start at name = at + 4 + length name + 3
 
@@ -102,13 +102,13 @@ val_at text vals at =
     (right_type vals (right_at text (right_start at (run_at text (at + 4)))))
     else None
 
--- behind a val: the end of the object, or more vals behind a `; `
+-- after a val: the end of the object, or more vals after a `; `
 abbrev pub vals_behind : (List ThinVal → ℕ → Option (List ThinVal)) → Bytes → List ThinVal → ThinVal → Option (List ThinVal)
 vals_behind more text vals v =
     if bytes_eq (drop v.right.end text) (codes " }") then Some (vals ++ v ∷ [])
     else (if stands_at text v.right.end (codes "; ") then more (vals ++ v ∷ []) (v.right.end + 2) else None)
 
--- The vals from this place on, behind those so far, up to the end of the object; no more than this many.
+-- The vals from this place on, after those so far, up to the end of the object; no more than this many.
 abbrev pub vals_from : ℕ → Bytes → List ThinVal → ℕ → Option (List ThinVal)
 vals_from zero text vals at = None
 vals_from (suc most) text vals at = option_and_then (vals_behind (vals_from most text) text vals) (val_at text vals at)
@@ -120,7 +120,7 @@ abbrev pub unit_or_other : Option ThinUnit → ThinUnit
 unit_or_other None = Other
 unit_or_other (Some unit) = unit
 
--- the object of this name, whose vals stand behind its head
+-- the object of this name, whose vals stand after its head
 abbrev pub object_at : Bytes → Bytes → ThinUnit
 object_at text name =
     if is_identifier name && stands_at text (7 + length name) (codes " { ")

@@ -145,6 +145,6 @@ unread sources file = if is_loaded sources file then answer.Unread else answer.N
 -- The answer of an ask: the tree at an offset where the sources are thin.
 abbrev pub thin_answer : Sources → Call → Answer
 thin_answer sources (TypeAt file offset) = tree_answer sources offset (text_of sources file)
-thin_answer sources (Reload entries) = answer.NoUnit
+thin_answer sources (Reload pairs) = answer.NoUnit
 thin_answer sources (Remove names) = answer.NoUnit
 thin_answer sources call = unread sources (asked_file call)

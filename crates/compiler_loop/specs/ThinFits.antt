@@ -42,7 +42,7 @@ unread_fits sources call can = at (is_loaded sources (asked_file call)) where
   at false = (λ h. refl, λ h. absurd (false≢true h))
 
 pub thin_fits : (sources : Sources) (call : Call) → is_mutation call ≡ false → Fits sources call (thin_answer sources call)
-thin_fits sources (Reload entries) ask = absurd (true≢false ask)
+thin_fits sources (Reload pairs) ask = absurd (true≢false ask)
 thin_fits sources (Remove names) ask = absurd (true≢false ask)
 thin_fits sources (TypeAt file offset) ask = rw (is_loaded-text_of sources file) (tree_fits sources file offset (text_of sources file))
 thin_fits sources (MembersAt file offset) ask = unread_fits sources (MembersAt file offset) refl

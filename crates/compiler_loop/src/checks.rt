@@ -81,7 +81,7 @@ impl Checks {
         put_before(&mut self.due, again);
     }
 
-    /// Makes a file due, behind all others, where it is new. It takes no memory.
+    /// Makes a file due, after all others, where it is new. It takes no memory.
     pub fn add(&mut self, name: Text, is_new: bool)
         requires { HasRoomIn self.old 1 }
         ensures due { due_in self.new ≡ (if is_new then due_in self.old ++ name ∷ [] else due_in self.old) }

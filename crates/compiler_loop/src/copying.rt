@@ -2,7 +2,7 @@ ghost use Rattle.std.specs.Prelude.{◌≡◌, ◌≤◌, ℕ, List, length, All
 ghost use Rattle.std.specs.List.{list_any};
 ghost use Rattle.std.specs.Str.{bytes_eq};
 ghost use Rattle.ask_history.specs.Sources.{is_mutation};
-ghost use Rattle.compiler_loop.specs.CoreParts.{entries_of};
+ghost use Rattle.compiler_loop.specs.CoreParts.{pairs_of};
 ghost use Rattle.pc_terms.specs.Bytes.{max_source_bytes};
 
 use crate::source::Source;
@@ -30,13 +30,13 @@ pub fn copied_ask(call: &Call) -> Result<Call, NoMemory>
 }
 
 /// Copies and reads the files of a reload.
-#[tactic(auto, using(crate::proofs::CoreLemmas::entries_of_push, std::proofs::lemmas::Grind::common_steps))]
-pub fn new_files(alloc: Global, entries: &[(Text, Text)]) -> Result<VecDeque<NewFile>, NoMemory>
-    requires { All (λ entry. length entry.1 ≤ max_source_bytes) entries.now }
-    ensures { IfOk result (λ files. entries_of files.items ≡ entries.now) }
+#[tactic(auto, using(crate::proofs::CoreLemmas::pairs_of_push, std::proofs::lemmas::Grind::common_steps))]
+pub fn new_files(alloc: Global, pairs: &[(Text, Text)]) -> Result<VecDeque<NewFile>, NoMemory>
+    requires { All (λ pair. length pair.1 ≤ max_source_bytes) pairs.now }
+    ensures { IfOk result (λ files. pairs_of files.items ≡ pairs.now) }
 {
     let mut files = VecDeque::new(alloc);
-    for (name, text) in entries {
+    for (name, text) in pairs {
         files.push_back(new_file(alloc, name, text)?)?;
     }
     Ok(files)

@@ -2,7 +2,7 @@ ghost use Rattle.std.specs.Prelude.{◌≡◌, [], length, true, IfOk};
 ghost use Rattle.compiler_loop.specs.LoadedView.{files_of, names_of, outcomes_of, HasRoom};
 ghost use Rattle.ask_history.specs.Engine.{HasFileSizes};
 ghost use Rattle.ask_history.specs.Sources.{is_mutation, mutated, reloaded};
-ghost use Rattle.compiler_loop.specs.CoreParts.{call_of, entries_of, new_files_of, IsReady};
+ghost use Rattle.compiler_loop.specs.CoreParts.{call_of, pairs_of, new_files_of, IsReady};
 
 use crate::copying::{new_files, removal};
 use crate::loaded::LoadedFiles;
@@ -44,7 +44,7 @@ fn change(alloc: Global, call: &Call) -> Result<Change, NoMemory>
     ensures { IfOk result (λ change. call_of change ≡ call.now) }
 {
     match call {
-        Call::Reload(entries) => Ok(Change::Reload(new_files(alloc, entries.as_slice())?)),
+        Call::Reload(pairs) => Ok(Change::Reload(new_files(alloc, pairs.as_slice())?)),
         Call::Remove(names) => Ok(Change::Remove(removal(alloc, names.as_slice())?)),
         _ => unreachable!(),
     }
@@ -80,7 +80,7 @@ pub fn apply(loaded: &mut LoadedFiles, staged: Staged)
 fn put_all(loaded: &mut LoadedFiles, files: VecDeque<NewFile>)
     requires due { outcomes_of loaded.old ≡ [] }
     requires room { HasRoom loaded.old (length files.items) }
-    ensures files { files_of loaded.new ≡ reloaded (files_of loaded.old) (entries_of files.items) }
+    ensures files { files_of loaded.new ≡ reloaded (files_of loaded.old) (pairs_of files.items) }
     ensures outcomes { outcomes_of loaded.new ≡ [] }
 {
     let mut files = files;

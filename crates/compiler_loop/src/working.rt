@@ -58,7 +58,7 @@ fn restart_top(tasks: &mut Stack<Task>, ticket: u64)
     requires { option_map ticket_of (top_of tasks.old) ≡ Some ticket }
     ensures asks { asks_of tasks.new ≡ asks_of tasks.old }
     ensures top { option_map ticket_of (top_of tasks.new) ≡ Some ticket }
-    ensures fresh { option_map (λ entry. entry.stale) (top_of tasks.new) ≡ Some false }
+    ensures fresh { option_map (λ task. task.stale) (top_of tasks.new) ≡ Some false }
 {
     if tasks.is_stale(ticket) {
         tasks.refresh_top();

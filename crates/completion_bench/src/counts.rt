@@ -1,5 +1,5 @@
 use crate::shapes::Shape;
-use completion_checks::{Found, Graph, ask_all, new_memo, value_found};
+use completion_checks::{Graph, NodeState, ask_all, new_memo, value_found};
 use lazy_completion::Memo;
 use pc_terms::NoMemory;
 use std::alloc::Global;
@@ -23,11 +23,11 @@ impl Counts {
         println!(rt; "values {values}, cyclic {cyclic}, without {without}")
     }
 
-    fn add(&mut self, found: Found) {
+    fn add(&mut self, found: NodeState) {
         let count = match found {
-            Found::Value => &mut self.values,
-            Found::Cyclic => &mut self.cyclic,
-            Found::Nothing => &mut self.without,
+            NodeState::Value => &mut self.values,
+            NodeState::Cyclic => &mut self.cyclic,
+            NodeState::Nothing => &mut self.without,
         };
         *count = count.saturating_add(1);
     }
@@ -52,8 +52,8 @@ fn complete_all(graph: &Graph, order: &[u32]) -> Result<Counts, NoMemory> {
 
 fn counted(graph: &Graph, memo: &Memo, nodes: &[u32]) -> Result<Counts, NoMemory> {
     let mut counts = Counts::default();
-    for place in nodes {
-        counts.add(value_found(graph, memo, *place)?);
+    for node in nodes {
+        counts.add(value_found(graph, memo, *node)?);
     }
     Ok(counts)
 }

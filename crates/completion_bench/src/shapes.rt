@@ -23,8 +23,8 @@ impl Shape {
     /// A graph of this shape.
     pub fn graph(self, alloc: Global, nodes: u32) -> Result<Graph, AllocError> {
         let mut needs = Vec::new(alloc);
-        for place in 0..nodes {
-            needs.push(self.need(place))?;
+        for node in 0..nodes {
+            needs.push(self.need(node))?;
         }
         Ok(Graph { needs, alloc })
     }
@@ -32,20 +32,20 @@ impl Shape {
     /// All nodes, in the order in which they are asked for.
     pub fn order(self, alloc: Global, nodes: u32) -> Result<Vec<u32>, AllocError> {
         let mut order = Vec::new(alloc);
-        for place in 0..nodes {
+        for node in 0..nodes {
             order.push(match self {
-                Shape::Chain => place,
-                Shape::Tree => nodes - 1 - place,
+                Shape::Chain => node,
+                Shape::Tree => nodes - 1 - node,
             })?;
         }
         Ok(order)
     }
 
-    fn need(self, place: u32) -> u32 {
+    fn need(self, node: u32) -> u32 {
         match self {
-            Shape::Chain => place.saturating_add(1),
-            Shape::Tree if place == 0 => NO_NODE,
-            Shape::Tree => place / 2,
+            Shape::Chain => node.saturating_add(1),
+            Shape::Tree if node == 0 => NO_NODE,
+            Shape::Tree => node / 2,
         }
     }
 }

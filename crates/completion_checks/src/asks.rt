@@ -9,7 +9,7 @@ use pc_terms::{Item, ItemValue, NoMemory, Text};
 
 /// What a memo has for a node.
 #[derive(Clone, Copy, Debug, PartialEq, Eq)]
-pub enum Found {
+pub enum NodeState {
     Nothing,
     Value,
     Cyclic,
@@ -26,29 +26,29 @@ pub fn new_memo(graph: &Graph) -> Result<Memo, NoMemory>
 }
 
 /// Completes nodes in this order.
-pub fn ask_all(graph: &Graph, memo: &mut Memo, places: &[u32]) -> Result<(), NoMemory>
+pub fn ask_all(graph: &Graph, memo: &mut Memo, order: &[u32]) -> Result<(), NoMemory>
     requires unlocked { locked memo.old ≡ [] }
     requires right { IsOf (nodes (length graph.now.needs.items)) (typing graph.now.needs.items) memo.old }
     ensures unlocked { locked memo.new ≡ [] }
     ensures right { IsOf (nodes (length graph.now.needs.items)) (typing graph.now.needs.items) memo.new }
 {
-    for place in places {
-        ask(graph, memo, *place)?;
+    for node in order {
+        ask(graph, memo, *node)?;
     }
     Ok(())
 }
 
 /// Completes a node that has no value yet. What is no node is passed over.
-pub fn ask(graph: &Graph, memo: &mut Memo, place: u32) -> Result<(), NoMemory>
+pub fn ask(graph: &Graph, memo: &mut Memo, node: u32) -> Result<(), NoMemory>
     requires unlocked { locked memo.old ≡ [] }
     requires right { IsOf (nodes (length graph.now.needs.items)) (typing graph.now.needs.items) memo.old }
     ensures unlocked { locked memo.new ≡ [] }
     ensures right { IsOf (nodes (length graph.now.needs.items)) (typing graph.now.needs.items) memo.new }
 {
-    if place as usize >= graph.needs.len() {
+    if node as usize >= graph.needs.len() {
         return Ok(());
     }
-    let item = Item::Qualifier(Text::new(graph.alloc, "")?, place);
+    let item = Item::Qualifier(Text::new(graph.alloc, "")?, node);
     match memo.value(&item) {
         None => complete(item, graph, memo),
         Some(_) => Ok(()),
@@ -56,11 +56,11 @@ pub fn ask(graph: &Graph, memo: &mut Memo, place: u32) -> Result<(), NoMemory>
 }
 
 /// What the memo has for a node.
-pub fn value_found(graph: &Graph, memo: &Memo, place: u32) -> Result<Found, NoMemory> {
-    let item = Item::Qualifier(Text::new(graph.alloc, "")?, place);
+pub fn value_found(graph: &Graph, memo: &Memo, node: u32) -> Result<NodeState, NoMemory> {
+    let item = Item::Qualifier(Text::new(graph.alloc, "")?, node);
     Ok(match memo.value(&item) {
-        None => Found::Nothing,
-        Some(ItemValue::Cyclic) => Found::Cyclic,
-        Some(_value) => Found::Value,
+        None => NodeState::Nothing,
+        Some(ItemValue::Cyclic) => NodeState::Cyclic,
+        Some(_value) => NodeState::Value,
     })
 }

@@ -19,10 +19,10 @@ impl Graph {
     ghost use Rattle.completion_checks.specs.Graph.{need};
 
     /// The node that a node needs.
-    fn need(&self, place: u32) -> Option<u32>
-        ensures { result ≡ need self.now.needs.items place }
+    fn need(&self, node: u32) -> Option<u32>
+        ensures { result ≡ need self.now.needs.items node }
     {
-        match self.needs.get(place as usize) {
+        match self.needs.get(node as usize) {
             Some(other) if (*other as usize) < self.needs.len() => Some(*other),
             _ => None,
         }
@@ -37,10 +37,10 @@ impl TypesItems for Graph {
     ghost typing = { λ graph. typing graph.needs.items };
 
     fn type_item(&self, item: &Item, memo: &Memo) -> Result<Asked<ItemValue>, NoMemory> {
-        let Item::Qualifier(_, place) = item else {
+        let Item::Qualifier(_, node) = item else {
             unreachable!()
         };
-        let Some(other) = self.need(*place) else {
+        let Some(other) = self.need(*node) else {
             return Ok(Asked::Known(ItemValue::Qualifier(None)));
         };
         let needed = Item::Qualifier(Text::new(self.alloc, "")?, other);

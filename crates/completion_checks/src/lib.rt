@@ -6,5 +6,5 @@ mod graph;
 #[cfg(test)]
 mod tests;
 
-pub use asks::{Found, ask, ask_all, new_memo, value_found};
+pub use asks::{NodeState, ask, ask_all, new_memo, value_found};
 pub use graph::Graph;

@@ -28,7 +28,7 @@ pub record Learns (view : View) (found : ℕ) : Type 0 where
 abbrev pub Loads : Step ℕ → Me ℕ View → ℕ → Me ℕ View → Type 0
 Loads step old found new = (new.1 ≡ old.1) × (new.0 ≡ loaded old.0 found) × Learns old.0 found
 
--- An append finds the length of what the leader has seen, and puts its entry behind it.
+-- An append finds the length of what the leader has seen, and puts its entry after it.
 abbrev pub Appends : Entry → Step ℕ → Me ℕ View → ℕ → Me ℕ View → Type 0
 Appends entry step old found new = (new.1 ≡ old.1) × (new.0 ≡ appended old.0 entry) × (found ≡ length old.0.seen)
 

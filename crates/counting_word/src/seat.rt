@@ -202,7 +202,7 @@ impl<B: Room> Counter<B> {
         }
     }
 
-    /// Puts an event in the seat's own name behind the history.
+    /// Puts an event in the seat's own name at the end of the history.
     pub fn append(&self, seat: &mut Seat<B>, event: &Event)
         requires leads { seat.old.leads ≡ true }
         requires named { IsTrue (is_some seat.old.name.number) }
@@ -213,7 +213,7 @@ impl<B: Room> Counter<B> {
         self.write::<Brand, _>(seat, event, &());
     }
 
-    /// Puts the settling of a call in the seat's own name behind the history, with the call's answer.
+    /// Puts the settling of a call in the seat's own name at the end of the history, with the call's answer.
     pub fn append_answer(&self, seat: &mut Seat<B>, event: &Event, answer: &Answer)
         requires leads { seat.old.leads ≡ true }
         requires named { IsTrue (is_some seat.old.name.number) }
@@ -224,7 +224,7 @@ impl<B: Room> Counter<B> {
         self.write::<Brand, _>(seat, event, answer);
     }
 
-    /// Puts a check in the seat's own name behind the history, with the problems that it found.
+    /// Puts a check in the seat's own name at the end of the history, with the problems that it found.
     pub fn append_check(&self, seat: &mut Seat<B>, event: &Event, problems: &Row<Problem>)
         requires leads { seat.old.leads ≡ true }
         requires named { IsTrue (is_some seat.old.name.number) }
@@ -235,7 +235,8 @@ impl<B: Room> Counter<B> {
         self.write::<Brand, _>(seat, event, problems);
     }
 
-    /// Puts an entry behind the history. What the event found is passed on so that each caller picks the entry by it.
+    /// Puts an entry at the end of the history. What the event found is passed on so that each caller picks the entry
+    /// by it.
     fn write<W: Writing, F>(&self, seat: &mut Seat<B>, event: &Event, _found: &F)
         requires leads { seat.old.leads ≡ true }
         requires named { IsTrue (is_some seat.old.name.number) }

@@ -37,7 +37,7 @@ fn reload_of(alloc: Global, file: File) -> Result<Call, NoMemory>
 
 type Refusals = (Option<PostRefused>, Option<PostRefused>);
 
-/// Why the first reload is refused that is, and why one behind the shutdown is.
+/// Why the first reload is refused that is, and why one after the shutdown is.
 fn refusals<R: Wait>(
     rt: &R,
     alloc: Global,
@@ -97,7 +97,7 @@ fn first_refusal<N: Room, R: Wait>(
     Ok(None)
 }
 
-/// Holds what is refused of these reloads against what must be, and what is refused behind the shutdown.
+/// Holds what is refused of these reloads against what must be, and what is refused after the shutdown.
 fn agree<R: Abort + AllocGlobal + Wait>(
     rt: &R,
     limits: Limits,

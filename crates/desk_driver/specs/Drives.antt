@@ -22,14 +22,14 @@ abbrev pub findings_in : List Entry → List Finding
 findings_in entries = my_findings (seen_history entries)
 
 module _ (answer_of : Sources → Call → Answer) (problems_of : Sources → Bytes → List Problem) where
-  -- What the engine's pass may put behind a journal: a settling with the reply there, or a check with the problems of the file
+  -- What the engine's pass may put after a journal: a settling with the reply there, or a check with the problems of the file
   -- over the sources there.
   abbrev pub IsRight : List Event → Event → Found → Type 0
   IsRight journal (Settle t m) found = found ≡ Answered (reply answer_of journal t m)
   IsRight journal (Checked file) found = found ≡ Problems (problems_of (after journal) file)
   IsRight journal _ found = ⊥
 
-  -- Of these entries, behind this history, each of the engine's is right.
+  -- Of these entries, after this history, each of the engine's is right.
   abbrev pub AreRight : List Entry → List Entry → Type 0
   AreRight before [] = ⊤
   AreRight before (entry ∷ entries) = (entry.author ≡ engine_number → IsRight (journal_of before) entry.event entry.found) × AreRight (before ++ entry ∷ []) entries

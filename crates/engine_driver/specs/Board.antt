@@ -60,7 +60,7 @@ abbrev pub effect_of : Option Call → Effect
 effect_of None = Dropped
 effect_of (Some mutation) = Applies
 
--- the settling of a ticket behind a journal, by the driver: its answer is the reply there, with what was found in the
+-- the settling of a ticket after a journal, by the driver: its answer is the reply there, with what was found in the
 -- value's place
 abbrev pub settled_as : List Event → ℕ → Option Answer → Entry
 settled_as journal ticket found = record {
@@ -70,11 +70,11 @@ settled_as journal ticket found = record {
   mine = true;
 }
 
--- Behind the shutdown every call is settled, and nothing is written.
+-- After the shutdown every call is settled, and nothing is written.
 abbrev pub settling : List Event → ℕ → Option Answer → List Entry
 settling journal ticket found = if is_closed journal then [] else settled_as journal ticket found ∷ []
 
--- A ticket is settled behind what others did, and a mutation with it takes effect or not.
+-- A ticket is settled after what others did, and a mutation with it takes effect or not.
 pub record Settles (old new : List Entry) (ticket : ℕ) (found : Option Answer) (effect : Effect) : Type 0 where
   pub before : List Entry
   pub later : IsLater old before
@@ -92,7 +92,7 @@ abbrev pub noting : Bytes → List Problem → CheckNoted → List Entry
 noting file problems Noted = checking file problems ∷ []
 noting file problems _ = []
 
--- A check is noted behind what others did, or it is not: behind the shutdown, or out of memory.
+-- A check is noted after what others did, or it is not: after the shutdown, or out of memory.
 pub record Checks (old new : List Entry) (file : Bytes) (problems : List Problem) (noted : CheckNoted) : Type 0 where
   pub before : List Entry
   pub later : IsLater old before

@@ -30,14 +30,14 @@ my_findings entries = flat_map my_finding entries
 -- ---- entries
 
 module _ (answer_of : Sources → Call → Answer) (problems_of : Sources → Bytes → List Problem) where
-  -- What the driver may put behind a journal: a settling whose answer is the reply there, or a check with the problems of the
+  -- What the driver may put after a journal: a settling whose answer is the reply there, or a check with the problems of the
   -- file over the sources there.
   abbrev pub IsRight : List Event → Event → Option Answer → Option (List Problem) → Type 0
   IsRight journal (Settle t m) answer problems = answer ≡ Some (reply answer_of journal t m)
   IsRight journal (Checked file) answer problems = problems ≡ Some (problems_of (after journal) file)
   IsRight journal _ answer problems = ⊥
 
-  -- Of these entries, behind this history, each of the driver's is right.
+  -- Of these entries, after this history, each of the driver's is right.
   abbrev pub AreRight : List Entry → List Entry → Type 0
   AreRight before [] = ⊤
   AreRight before (entry ∷ entries) =
@@ -81,7 +81,7 @@ pub data TurnsOn (old new : DriverSeen) : Type 0 where
   Skips : (file : Bytes) → IsCheckOf old.engine file → new.engine ≡ record old.engine { skipped = old.engine.skipped ++ file ∷ [] } → TurnsOn old new
   Waits : is_idle old.engine ≡ true → Awaits old.history new.history old.next → TurnsOn old new
 
--- What a round does behind its look: it takes off the first of the open tickets of which a cancel stands. Where there is
+-- What a round does after its look: it takes off the first of the open tickets of which a cancel stands. Where there is
 -- none, it passes the next ticket, or, where none more is accepted, the engine makes a turn.
 abbrev pub Does : Option ℕ → DriverSeen → DriverSeen → Type 0
 Does (Some ticket) old new = new.opened ≡ without ticket old.opened
@@ -93,7 +93,7 @@ pub record GoesOn (old new : DriverSeen) : Type 0 where
   -- the history at its look
   pub looked : List Entry
   pub later : IsLater old.history looked
-  -- and what was written behind it
+  -- and what was written after it
   pub more : List Entry
   pub behind : new.history ≡ looked ++ more
   pub cancelled : Option ℕ

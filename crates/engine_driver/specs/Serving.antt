@@ -60,7 +60,7 @@ pub record IsServed (journal : List Event) (state : EngineState) : Type 0 where
 
 -- ---- within a round
 
--- What was found for a ticket: whatever others do first, it gives the reply behind them.
+-- What was found for a ticket: whatever others do first, it gives the reply after them.
 abbrev pub IsFound : (Sources → Call → Answer) → List Entry → ℕ → Option Answer → Type 0
 IsFound answer_of history ticket found = (before : List Entry) → IsLater history before
     → reply (λ files call. value_of found) (journal_of before) ticket (mark_of found) ≡ reply answer_of (journal_of before) ticket (mark_of found)

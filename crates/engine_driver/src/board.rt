@@ -19,7 +19,7 @@ pub enum Posted {
     Call(Call),
     /// It is not settled, and memory ran out for a copy of its call.
     NoMemory,
-    /// It is settled, as every call is behind the shutdown.
+    /// It is settled, as every call is after the shutdown.
     Settled,
 }
 

@@ -79,7 +79,7 @@ abbrev pub is_begin : Tail → Bool
 is_begin tail.Begin = true
 is_begin _ = false
 
--- an operand can begin here, behind this newline
+-- an operand can begin here, after this newline
 abbrev pub may_stand : Context → Newline → Bool
 may_stand c before =
     is_begin c.tail && (not (is_param_limit c.limit) && (is_first c || (is_some c.sign || is_near before)))
@@ -117,7 +117,7 @@ waiting_opened frames c (tail.AtNew new) joined =
     if joined then Some (opened frames (bracket.NewArgs new.kids false) new.span.start (at_tail c tail.Begin)) else None
 waiting_opened frames c _ joined = None
 
--- behind `(`
+-- after `(`
 abbrev pub round_opened : List Frame → Context → ℕ → Newline → Option State
 round_opened frames c start before =
     if takes_args c then (if is_no before then Some (args_opened frames c) else None)
@@ -175,7 +175,7 @@ element_at c = if is_param c then param_element c.tail else element.Plain (expr_
 abbrev pub is_untouched : Context → Bool
 is_untouched c = is_first c && (is_nil c.heads && is_begin c.tail)
 
--- the bracket can have one more, behind the element that ends here
+-- the bracket can have one more, after the element that ends here
 abbrev pub has_room : Bracket → Context → Bool
 has_room (bracket.Group elements may_be_head) c = nat_lt (length elements) 2 || (may_be_head && is_param c)
 has_room (bracket.Args receiver kids any) c = true
@@ -215,7 +215,7 @@ grown_state grown start fs = record {
 abbrev pub parted_in : Frame → List Frame → Context → State
 parted_in f fs c = grown_state (with_element f.bracket f.outer c) f.start fs
 
--- behind a comma
+-- after a comma
 abbrev pub parted : List Frame → Context → Option State
 parted [] c = None
 parted (f ∷ fs) c = if is_expr c && has_room f.bracket c then Some (parted_in f fs c) else None
@@ -228,7 +228,7 @@ may_be_empty (bracket.Args receiver kids any) = not any
 may_be_empty (bracket.NewArgs kids any) = not any
 may_be_empty _ = false
 
--- behind a bracket of elements
+-- after a bracket of elements
 abbrev pub closed_list : Bracket → Span → Context → Context
 closed_list (bracket.Group elements may_be_head) span outer =
     at_tail outer (tail.AtGroup (record { span = span; elements = elements; may_be_head = may_be_head }))
@@ -254,7 +254,7 @@ behind_do span test =
 abbrev pub behind_for : Span → Finished → Context
 behind_for span found = with_head found.outer span.start (head.For found.generators false)
 
--- behind a bracket that is not empty
+-- after a bracket that is not empty
 abbrev pub closed_in : Bracket → Span → Context → Context → Context
 closed_in bracket.IfTest span outer c = behind_if span (with_arg no_kids outer c)
 closed_in bracket.WhileTest span outer c = behind_while span (with_arg no_kids outer c)
@@ -271,7 +271,7 @@ abbrev pub in_state : List Frame → Option Context → Option State
 in_state frames None = None
 in_state frames (Some c) = Some (record { frames = frames; context = c })
 
--- behind `)`
+-- after `)`
 abbrev pub round_closed : List Frame → Context → ℕ → Option State
 round_closed [] c end = None
 round_closed (f ∷ fs) c end = in_state fs (closed_frame f c end)

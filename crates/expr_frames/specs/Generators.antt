@@ -100,7 +100,7 @@ pattern_on frames p s x =
     })
     else None
 
--- behind one token more of the pattern of a generator, or behind the arrow
+-- after one token more of the pattern of a generator, or after the arrow
 abbrev pub in_pattern : List Frame → PatternState → Symbol → Lexeme → Option State
 in_pattern frames p symbol.BackArrow x = arrowed frames p
 in_pattern frames p s x = pattern_on frames p s x
@@ -188,7 +188,7 @@ guarded_in (bracket.Generators gens part) start outer frames c = Some (record {
 })
 guarded_in _ start outer frames c = None
 
--- behind the `if` of a guard
+-- after the `if` of a guard
 abbrev pub guarded : List Frame → Context → Option State
 guarded [] c = None
 guarded (f ∷ fs) c = guarded_in f.bracket f.start f.outer fs c
@@ -196,7 +196,7 @@ guarded (f ∷ fs) c = guarded_in f.bracket f.start f.outer fs c
 abbrev pub guard_separated : Ready → Context
 guard_separated r = in_context [] r.free (tail.AtSemi r.operand false) limit.Guard
 
--- behind a `;` between generators or before a guard
+-- after a `;` between generators or before a guard
 abbrev pub separated : Context → Context
 separated c = if is_guard c.limit then guard_separated (chain_of c) else with_semicolon c
 

@@ -35,7 +35,7 @@ reach_with below head.Try = record below { takes_catch = true; takes_finally = t
 reach_with below head.Do = record nothing { waits = true }
 reach_with below _ = below
 
--- the context behind one head more, whose are the placeholders so far
+-- the context after one head more, whose are the placeholders so far
 abbrev pub with_head : Context → ℕ → HeadKind → Context
 with_head c start kind = record {
   heads = record { start = start; kind = kind; free = c.free; reach = reach_with (reach_of c.heads) kind } ∷ c.heads;
@@ -107,7 +107,7 @@ behind_else c start kind body = with_head c start (head.IfElse (joined (test_of 
 abbrev pub behind_finally : Context → Begun → Context
 behind_finally c begun = with_head c begun.start (head.Finally begun.kids)
 
--- the context behind the word, which the head takes
+-- the context after the word, which the head takes
 abbrev pub behind_head : List Head → Head → Word → Ready → Limit → Context
 behind_head hs h word.Else body limit =
     behind_else (in_context hs (h.free ++ body.free) tail.Begin limit) h.start h.kind body.operand
@@ -138,13 +138,13 @@ abbrev pub is_finally : Word → Bool
 is_finally word.Finally = true
 is_finally _ = false
 
--- the context behind `else`, `catch`, `finally` or the `while` of a `do`
+-- the context after `else`, `catch`, `finally` or the `while` of a `do`
 unfoldable pub with_word : Context → Word → Context
 with_word c w =
     if is_finally w && is_caught c.tail then behind_caught c.heads c.free c.tail c.limit
     else behind_taken (taken c.heads w (innermost c.operations c.sign c.tail c.free)) w c.limit
 
--- the context behind a `;` that a head may cross
+-- the context after a `;` that a head may cross
 abbrev pub with_semicolon : Context → Context
 with_semicolon c =
     let r = innermost c.operations c.sign c.tail c.free in

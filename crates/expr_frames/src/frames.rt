@@ -113,7 +113,7 @@ pub fn is_near(before: Newline) -> bool
     !matches!(before, Newline::Blank)
 }
 
-/// Whether an operand can begin here, behind this newline.
+/// Whether an operand can begin here, after this newline.
 pub fn may_stand(context: &Context, before: Newline) -> bool
     ensures { result ≡ spec.may_stand context.now before }
 {
@@ -232,7 +232,7 @@ fn waiting_opened(
     }
 }
 
-/// The state behind `(`.
+/// The state after `(`.
 pub fn round_opened(
     alloc: Global,
     frames: Stack<Frame>,
@@ -373,7 +373,7 @@ fn is_untouched(context: &Context) -> bool
     is_first(context) && context.heads.is_empty() && is_begin(&context.tail)
 }
 
-// Whether the bracket can have one more, behind the element that ends here.
+// Whether the bracket can have one more, after the element that ends here.
 fn has_room(bracket: &Bracket, context: &Context) -> bool
     ensures { result ≡ spec.has_room bracket.now context.now }
 {
@@ -498,7 +498,7 @@ fn parted_in(
     })
 }
 
-/// The state behind a comma.
+/// The state after a comma.
 pub fn parted(
     alloc: Global,
     frames: Stack<Frame>,
@@ -544,7 +544,7 @@ fn may_be_empty(bracket: &Bracket) -> bool
     }
 }
 
-// The context behind a bracket of elements.
+// The context after a bracket of elements.
 fn closed_list(alloc: Global, bracket: Bracket, span: Span, outer: Context) -> Context
     ensures { result ≡ spec.closed_list bracket span outer }
 {
@@ -615,7 +615,7 @@ fn behind_for(alloc: Global, span: Span, found: Finished) -> Result<Context, NoM
     with_head(alloc, outer, span.start, HeadKind::For(generators, false))
 }
 
-// The context behind a bracket that is not empty.
+// The context after a bracket that is not empty.
 fn closed_in(
     alloc: Global,
     bracket: Bracket,
@@ -673,7 +673,7 @@ fn closed_frame(
     }
 }
 
-/// The state behind `)`.
+/// The state after `)`.
 pub fn round_closed(
     alloc: Global,
     frames: Stack<Frame>,

@@ -106,7 +106,7 @@ fn is_generator_token(pattern: &PatternState, symbol: Symbol, token: Token, word
     }
 }
 
-/// The state behind one token more of the pattern of a generator, or behind the arrow.
+/// The state after one token more of the pattern of a generator, or after the arrow.
 pub fn in_pattern(
     alloc: Global,
     frames: Stack<Frame>,
@@ -208,7 +208,7 @@ fn arrowed(
     }
 }
 
-/// The context with more placeholders behind those so far.
+/// The context with more placeholders after those so far.
 pub fn with_free(context: Context, free: Row<Span>) -> Result<Context, NoMemory>
     ensures { IfOk result (λ now. now ≡ spec.with_free context free) }
 {
@@ -441,7 +441,7 @@ pub fn next_generator(
     }
 }
 
-/// The state behind the `if` of a guard.
+/// The state after the `if` of a guard.
 pub fn guarded(
     alloc: Global,
     frames: Stack<Frame>,
@@ -490,7 +490,7 @@ fn guard_separated(alloc: Global, guard: Ready) -> Context
     )
 }
 
-/// The context behind a `;` between generators or before a guard.
+/// The context after a `;` between generators or before a guard.
 pub fn separated(alloc: Global, context: Context) -> Result<Context, NoMemory>
     ensures { IfOk result (λ now. now ≡ spec.separated context) }
 {

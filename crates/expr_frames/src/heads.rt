@@ -57,7 +57,7 @@ fn reach_with(below: Reach, kind: &HeadKind) -> Reach
     }
 }
 
-/// The context behind one head more. Its placeholders so far are the head's.
+/// The context after one head more. Its placeholders so far are the head's.
 pub fn with_head(
     alloc: Global,
     context: Context,
@@ -198,7 +198,7 @@ fn behind_finally(alloc: Global, context: Context, begun: Begun) -> Result<Conte
     with_head(alloc, context, begun.start, HeadKind::Finally(begun.kids))
 }
 
-// The context behind the word, which the head takes.
+// The context after the word, which the head takes.
 fn behind_head(
     alloc: Global,
     heads: Stack<Head>,
@@ -240,7 +240,7 @@ fn behind_head(
     }
 }
 
-/// The head that takes a word, the heads around it, and the expression behind it.
+/// The head that takes a word, the heads around it, and the expression after it.
 #[derive(Debug, Drop)]
 pub struct Taken {
     pub head: Option<Head>,
@@ -305,7 +305,7 @@ fn is_finally(word: Word) -> bool
     matches!(word, Word::Finally)
 }
 
-/// The context behind `else`, `catch`, `finally` or the `while` of a `do`, which a head takes.
+/// The context after `else`, `catch`, `finally` or the `while` of a `do`, which a head takes.
 #[tactic(auto, unfolding(crate::specs::Heads::with_word))]
 pub fn with_word(alloc: Global, context: Context, word: Word) -> Result<Context, NoMemory>
     ensures { IfOk result (λ now. now ≡ spec.with_word context word) }
@@ -325,7 +325,7 @@ pub fn with_word(alloc: Global, context: Context, word: Word) -> Result<Context,
     behind_taken(alloc, fold_heads(alloc, heads, word, body)?, word, limit)
 }
 
-/// The context behind a `;` that a head may cross.
+/// The context after a `;` that a head may cross.
 pub fn with_semicolon(alloc: Global, context: Context) -> Result<Context, NoMemory>
     ensures { IfOk result (λ now. now ≡ spec.with_semicolon context) }
 {

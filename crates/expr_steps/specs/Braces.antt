@@ -46,7 +46,7 @@ abbrev pub asks_of : Asker → Option Asks
 asks_of asker.For = Some asks.Generators
 asks_of _ = None
 
--- behind a sign alone its own newline has to stand, or it would be a prefix operator
+-- after a sign alone its own newline has to stand, or it would be a prefix operator
 abbrev pub name_asks : Bool → Newline → Option Asks
 name_asks is_sign before = when_any (is_near before && not (is_sign && is_no before))
 
@@ -79,7 +79,7 @@ answers asks.Cases (inside.Cases cases) = true
 answers asks.Generators (inside.Generators generators) = true
 answers _ _ = false
 
--- ---- behind the braces
+-- ---- after the braces
 
 -- a block or cases as a tree
 abbrev pub arg_of : Span → Inside → Built
@@ -130,7 +130,7 @@ behind_at (tail.AtNew new) c span within = behind_new c new span (arg_of span wi
 behind_at tail.Begin c span within = as_prim c span (arg_of span within)
 behind_at _ c span within = as_arg (left c) span (arg_of span within)
 
--- the state behind a pair of braces that has what is asked for
+-- the state after a pair of braces that has what is asked for
 unfoldable pub behind : State → Braces → State
 behind s b = state s.frames (behind_at s.context.tail s.context b.span b.inside)
 

@@ -119,7 +119,7 @@ abbrev pub return_decided : Context → Span → Symbol → Newline → Context
 return_decided c span s before =
     if is_no before && begins_expr s then with_head c span.start head.Return else at_tail c (tail.AtReturn span)
 
--- what stands here depends on the token behind it
+-- what stands here depends on the token after it
 abbrev pub is_undecided : Tail → Bool
 is_undecided (tail.AtSign name) = true
 is_undecided (tail.InNew start end ty) = true
@@ -161,7 +161,7 @@ applied begun end = tail.AtPrim (record {
   span = from_start begun.start end;
 }) form.Plain
 
--- behind a type argument
+-- after a type argument
 abbrev pub types_on : Context → Begun → TypeState → Symbol → ℕ → Option Context
 types_on c begun ty symbol.Comma end = when (is_type ty) (at_tail c (tail.InTypes (with_type begun ty) type_begun))
 types_on c begun ty symbol.CloseSquare end = when (is_type ty) (at_tail c (applied (with_type begun ty) end))
@@ -227,7 +227,7 @@ on_literal c x = when (may_stand c x.place.before) (at_tail c (literal x.word x.
 abbrev pub negated : Name → Lexeme → Tail
 negated sign x = literal (codes "-" ++ x.word) (from_to sign.span x.place.span)
 
--- a number, maybe behind its minus
+-- a number, maybe after its minus
 abbrev pub number_at : Tail → Context → Lexeme → Option Context
 number_at (tail.AtSign sign) c x = Some (at_tail c (negated sign x))
 number_at _ c x = on_literal c x
@@ -374,7 +374,7 @@ with_heads c hs = record {
 abbrev pub yields_head : ℕ → List Generator → List Span → Reach → Head
 yields_head start gens free reach = record { start = start; kind = head.For gens true; free = free; reach = reach }
 
--- directly behind the generators, where `yield` does not stand yet
+-- directly after the generators, where `yield` does not stand yet
 abbrev pub yielding_by : HeadKind → Context → Head → Option Context
 yielding_by (head.For gens yields) c h =
     if yields then None else Some (with_heads c (yields_head h.start gens h.free h.reach ∷ c.heads))
@@ -387,7 +387,7 @@ yielding_at (h ∷ hs) c = yielding_by h.kind (with_heads c hs) h
 abbrev pub may_begin : Context → Bool
 may_begin c = may_stand c No && may_head c
 
--- the context behind a word with which an expression begins
+-- the context after a word with which an expression begins
 abbrev pub begun_with : Word → Context → Span → Option Context
 begun_with word.If c span = Some (at_tail c (tail.AtAsker asker.If span.start))
 begun_with word.While c span = Some (at_tail c (tail.AtAsker asker.While span.start))
@@ -431,7 +431,7 @@ abbrev pub on_word : Word → List Frame → Context → Newline → Span → Op
 on_word w frames c before span =
     if is_if w && ends_part frames c then guarded frames c else in_state frames (taken_or w c before span)
 
--- a `while` or an `else` of a head may stand behind it
+-- a `while` or an `else` of a head may stand after it
 abbrev pub is_crossed : Context → Bool
 is_crossed c = (waits_in c.heads && is_semi c.tail) || (is_whole c.tail && (waits_in c.heads || is_taken c word.Else))
 

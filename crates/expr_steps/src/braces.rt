@@ -298,7 +298,7 @@ fn behind_at(
     }
 }
 
-/// The state behind a pair of braces that has what is asked for.
+/// The state after a pair of braces that has what is asked for.
 #[tactic(auto, unfolding(crate::specs::Braces::behind))]
 pub fn behind(alloc: Global, state: State, braces: Braces) -> Result<State, NoMemory>
     ensures { IfOk result (λ now. now ≡ spec.behind state braces) }

@@ -161,7 +161,7 @@ fn return_decided(
     }
 }
 
-// Whether what stands at the tail depends on the token behind it. All else is decided already.
+// Whether what stands at the tail depends on the token after it. All else is decided already.
 fn is_undecided(tail: &Tail) -> bool
     ensures { result ≡ spec.is_undecided tail.now }
 {
@@ -261,7 +261,7 @@ fn applied(alloc: Global, begun: Begun, end: u32) -> Tail
     Tail::AtPrim(Operand { tall, span }, Form::Plain)
 }
 
-// A comma or `]` behind a type argument.
+// A comma or `]` after a type argument.
 pub fn types_on(
     alloc: Global,
     context: Context,
@@ -470,7 +470,7 @@ fn negated(alloc: Global, sign: Name, token: Token, word: &str) -> Result<Tail, 
     Ok(literal(alloc, text, span))
 }
 
-// A number, maybe behind its minus.
+// A number, maybe after its minus.
 pub fn on_number(
     alloc: Global,
     context: Context,

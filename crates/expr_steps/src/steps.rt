@@ -322,7 +322,7 @@ fn yields_head(start: u32, generators: Row<Generator>, free: Row<Span>, reach: R
     }
 }
 
-// Directly behind the generators, where `yield` does not stand yet.
+// Directly after the generators, where `yield` does not stand yet.
 fn yielding_by(context: Context, head: Head) -> Result<Option<Context>, NoMemory>
     ensures { IfOk result (λ now. now ≡ spec.yielding_by head.kind context head) }
 {
@@ -510,7 +510,7 @@ fn on_word(
     }
 }
 
-// Whether a `while` or an `else` of a head may stand behind it.
+// Whether a `while` or an `else` of a head may stand after it.
 fn is_crossed(context: &Context) -> bool
     ensures { result ≡ spec.is_crossed context.now }
 {

@@ -1,4 +1,4 @@
--- Operands and operators as they come: an operator waits for what stands behind it, and those that bind closer than
+-- Operands and operators as they come: an operator waits for what stands after it, and those that bind closer than
 -- the next one go first.
 use Rattle.std.specs.Prelude.{ℕ, Bool, if◌then◌else◌, List, [], ◌∷◌}
 use Rattle.positioned_trees.specs.declared.details.Name.{Name}

@@ -38,7 +38,7 @@ ready operand free = record { operand = operand; free = free }
 abbrev pub ident : Name → Operand
 ident name = record { tall = leaf kind.Ident name.text name.span; span = name.span }
 
--- a Prim and the `.` behind it, which ends here: a Select around a Hole
+-- a Prim and the `.` after it, which ends here: a Select around a Hole
 abbrev pub select_hole : Operand → ℕ → Operand
 select_hole receiver end = record {
   tall = node kind.Select [] (from_start end end) (from_start receiver.span.start end)
@@ -197,7 +197,7 @@ abbrev pub is_hole_form : Form → Bool
 is_hole_form form.Hole = true
 is_hole_form _ = false
 
--- an identifier behind the operand is an operator: it is the name of no Hole, and the operand of no prefix operator
+-- an identifier after the operand is an operator: it is the name of no Hole, and the operand of no prefix operator
 abbrev pub is_before_operator : Tail → Bool
 is_before_operator (tail.AtSign name) = false
 is_before_operator (tail.AtName name is_sign) = if is_sign then false else true

@@ -17,11 +17,11 @@ use Rattle.expr_tails.specs.declared.states.Tail.TheVariants as tail
 abbrev pub is_type : TypeState → Bool
 is_type ty = is_nil ty.frames && types.is_whole ty.tail
 
--- a type and the `.` behind it, which no name follows yet
+-- a type and the `.` after it, which no name follows yet
 abbrev pub is_type_and_dot : TypeState → Bool
 is_type_and_dot ty = is_nil ty.frames && is_dot ty.tail
 
--- The token is one more of the type behind `new`. In the guard of a case an arrow is none, since it is the case's.
+-- The token is one more of the type after `new`. In the guard of a case an arrow is none, since it is the case's.
 abbrev pub new_goes_on : Limit → TypeState → TypeSymbol → Bool
 new_goes_on limit.CaseGuard ty s = type_goes_on ty s
 new_goes_on _ ty s = types.admits ty s

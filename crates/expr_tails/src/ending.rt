@@ -146,7 +146,7 @@ fn bound_at(alloc: Global, ready: Ready) -> Result<Ready, NoMemory>
     })
 }
 
-/// Whether what was read is an expression and a `;` behind it.
+/// Whether what was read is an expression and a `;` after it.
 pub fn is_semi(tail: &Tail) -> bool
     ensures { result ≡ spec.is_semi tail.now }
 {

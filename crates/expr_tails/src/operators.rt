@@ -1,4 +1,4 @@
-//! Operators that wait for what stands behind them.
+//! Operators that wait for what stands after them.
 
 ghost use Rattle.std.specs.Prelude.{◌≡◌, IfOk};
 ghost use Rattle.expr_tails.specs.Operators as spec;

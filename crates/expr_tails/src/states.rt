@@ -94,7 +94,7 @@ pub enum Tail {
     AtGroup(Group),
     AtPrim(Operand, Form),
     AtCall(Call),
-    /// A Prim and the `.` behind it.
+    /// A Prim and the `.` after it.
     AtDot(Operand, Span),
     AtSuper(Span),
     AtSuperDot(Span),
@@ -116,7 +116,7 @@ pub enum Tail {
     AtCaught(Begun, u32),
     /// An expression to which nothing but the next part of a head around it can be added.
     AtEnded(Operand),
-    /// The innermost expression, ended, and behind it one `;`, or more.
+    /// The innermost expression, ended, and after it one `;`, or more.
     AtSemi(Operand, bool),
     /// The pattern of a generator.
     InPattern(PatternState),

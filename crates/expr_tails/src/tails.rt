@@ -23,7 +23,7 @@ pub struct Ready {
     pub free: Row<Span>,
 }
 
-/// The spans, and those behind them.
+/// The spans, and those after them.
 pub fn with_spans(spans: Row<Span>, behind: Row<Span>) -> Result<Row<Span>, NoMemory>
     ensures { IfOk result (λ now. now ≡ spans ++ behind) }
 {
@@ -48,7 +48,7 @@ pub fn ident(alloc: Global, name: Name) -> Operand
     }
 }
 
-/// A Prim and the `.` behind it: a Select around a Hole.
+/// A Prim and the `.` after it: a Select around a Hole.
 pub fn select_hole(alloc: Global, receiver: Operand, end: u32) -> Result<Operand, NoMemory>
     ensures { IfOk result (λ now. now ≡ spec.select_hole receiver end) }
 {
@@ -418,7 +418,7 @@ pub fn is_operand(tail: &Tail) -> bool
     }
 }
 
-/// Whether an identifier behind the operand is an operator: it is the name of no Hole, and the operand of no prefix
+/// Whether an identifier after the operand is an operator: it is the name of no Hole, and the operand of no prefix
 /// operator.
 pub fn is_before_operator(tail: &Tail) -> bool
     ensures { result ≡ spec.is_before_operator tail.now }

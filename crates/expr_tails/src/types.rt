@@ -31,14 +31,14 @@ pub fn is_type(ty: &TypeState) -> bool
     ty.frames.is_empty() && is_whole(&ty.tail)
 }
 
-/// Whether what was read is a type and the `.` behind it, which no name follows yet.
+/// Whether what was read is a type and the `.` after it, which no name follows yet.
 pub fn is_type_and_dot(ty: &TypeState) -> bool
     ensures { result ≡ spec.is_type_and_dot ty.now }
 {
     ty.frames.is_empty() && matches!(ty.tail, TypeTail::AtDot(_))
 }
 
-/// Whether a token is one more of the type behind `new`. In the guard of a case no arrow is.
+/// Whether a token is one more of the type after `new`. In the guard of a case no arrow is.
 pub fn new_goes_on(limit: Limit, ty: &TypeState, symbol: TypeSymbol) -> bool
     ensures { result ≡ spec.new_goes_on limit ty.now symbol }
 {

@@ -17,7 +17,7 @@ use tree_lower::{detailed, unlabelled};
 /// What was read of a clause.
 #[derive(Debug, Drop)]
 pub enum Tail {
-    /// Behind `import`, or behind a comma.
+    /// After `import`, or after a comma.
     Begin,
     /// A path.
     AtPath(Row<Name>),
@@ -32,7 +32,7 @@ pub struct Import {
     pub tail: Tail,
 }
 
-/// Behind the word `import`.
+/// After the word `import`.
 pub fn begun(alloc: Global, start: u32) -> Import
     ensures { result ≡ spec.begun start }
 {
@@ -84,7 +84,7 @@ fn one_selector(alloc: Global, selector: Selector) -> Result<Row<Selector>, NoMe
     Ok(selectors)
 }
 
-// The clause that names the last of these, behind those before it.
+// The clause that names the last of these, after those before it.
 #[tactic(auto, using(crate::proofs::Naming::named_alone, std::proofs::lemmas::Grind::common_steps))]
 fn named_clause(
     alloc: Global,
@@ -320,7 +320,7 @@ pub fn import_at(alloc: Global, import: Import) -> Result<Built, NoMemory>
 /// What was read of the selectors.
 #[derive(Debug, Drop)]
 pub enum Last {
-    /// Nothing, or behind a comma.
+    /// Nothing, or after a comma.
     Begin,
     AtName(Name),
     AtArrow(Name),
@@ -336,7 +336,7 @@ pub struct Selectors {
     pub last: Last,
 }
 
-/// Directly behind the opening brace.
+/// Directly after the opening brace.
 pub fn selectors_begun(alloc: Global) -> Selectors
     ensures { result ≡ spec.selectors_begun }
 {

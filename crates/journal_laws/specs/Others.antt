@@ -5,7 +5,7 @@ use Rattle.ask_history.specs.declared.events.Event.{Event}
 use Rattle.ask_history.specs.declared.events.Event.TheVariants.{Settle, Checked}
 
 -- an event that others than the engine's driver may make, where the shutdown stands before it or not: no check, and a
--- settling only behind the shutdown
+-- settling only after the shutdown
 abbrev pub is_others : Bool → Event → Bool
 is_others closed (Checked file) = false
 is_others closed (Settle ticket mark) = closed

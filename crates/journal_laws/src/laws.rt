@@ -10,7 +10,7 @@ ghost use Rattle.ask_history.specs.Legal.{is_legal, is_next, may_follow};
 ghost use Rattle.journal_laws.specs.Others.{are_others};
 ghost use Rattle.journal_laws.specs.Stays.{Stays};
 
-/// What others do, before the shutdown and behind it, leaves the sources and the checked files.
+/// What others do, before the shutdown and after it, leaves the sources and the checked files.
 pub fn law_others_leave_sources()
     ensures sources { (journal events : List Event) → IsTrue (are_others (is_closed journal) events) → after (journal ++ events) ≡ after journal }
     ensures files { (journal events : List Event) → IsTrue (are_others (is_closed journal) events) → checked (journal ++ events) ≡ checked journal }
@@ -31,7 +31,7 @@ pub fn law_one_event()
     ensures files { (journal : List Event) (file : List ℕ) → checked (journal ++ Checked file ∷ []) ≡ checked journal ++ file ∷ [] }
 {}
 
-/// Where a ticket may be settled, so may each below it, and so it may behind every event that may follow. Where its call is
+/// Where a ticket may be settled, so may each below it, and so it may after every event that may follow. Where its call is
 /// settled, or is an ask, the next one may be settled too.
 pub fn law_next_tickets()
     ensures below { (journal : List Event) (t u : ℕ) → t ≤ u → IsTrue (is_next journal u) → IsTrue (is_next journal t) }

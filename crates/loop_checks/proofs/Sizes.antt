@@ -5,9 +5,9 @@ use Rattle.std.specs.Str.{bytes_eq}
 use Rattle.ask_history.specs.Sources.{Bytes, Sources, put_file, reloaded, removed}
 use Rattle.ask_history.proofs.Loads.{length_put_file}
 
-pub length_reloaded : (files : Sources) (entries : List (Bytes × Bytes)) → length (reloaded files entries) ≤ length files + length entries
+pub length_reloaded : (files : Sources) (pairs : List (Bytes × Bytes)) → length (reloaded files pairs) ≤ length files + length pairs
 length_reloaded files [] = omega arith
-length_reloaded files (entry ∷ entries) = omega (arith, length_reloaded (put_file files entry) entries, length_put_file files entry)
+length_reloaded files (pair ∷ pairs) = omega (arith, length_reloaded (put_file files pair) pairs, length_put_file files pair)
 
 pub length_removed : (files : Sources) (names : List Bytes) → length (removed files names) ≤ length files
 length_removed [] names = omega arith

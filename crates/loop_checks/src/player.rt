@@ -24,19 +24,17 @@ fn is_name(name: &str) -> bool
     }
 }
 
-fn has_file_texts(entries: &[(Text, Text)]) -> bool
-    ensures { OnTrue result (All (λ entry. length entry.1 ≤ max_source_bytes) entries.now) }
+fn has_file_texts(pairs: &[(Text, Text)]) -> bool
+    ensures { OnTrue result (All (λ pair. length pair.1 ≤ max_source_bytes) pairs.now) }
 {
-    entries
-        .iter()
-        .all(|entry| entry.1.len() <= MAX_SOURCE_BYTES)
+    pairs.iter().all(|pair| pair.1.len() <= MAX_SOURCE_BYTES)
 }
 
-fn has_entry_names(entries: &[(Text, Text)]) -> bool
-    ensures { OnTrue result (list_all (λ entry. is_file_name entry.0) entries.now ≡ true) }
+fn has_pair_names(pairs: &[(Text, Text)]) -> bool
+    ensures { OnTrue result (list_all (λ pair. is_file_name pair.0) pairs.now ≡ true) }
 {
-    for entry in entries {
-        if !is_name(entry.0.as_str()) {
+    for pair in pairs {
+        if !is_name(pair.0.as_str()) {
             return false;
         }
     }
@@ -62,9 +60,9 @@ fn can_feed(call: &Call) -> bool
     ensures few { OnTrue result ((files : Sources) → length (mutated files call.now) ≤ length files + 2) }
 {
     match call {
-        Call::Reload(entries) => {
-            let entries = entries.as_slice();
-            entries.len() <= 2 && has_file_texts(entries) && has_entry_names(entries)
+        Call::Reload(pairs) => {
+            let pairs = pairs.as_slice();
+            pairs.len() <= 2 && has_file_texts(pairs) && has_pair_names(pairs)
         }
         Call::Remove(names) => has_names(names.as_slice()),
         Call::TypeAt(file, _) | Call::MembersAt(file, _) | Call::ScopeAt(file, _) => is_name(

@@ -1,6 +1,6 @@
 //! What a core does, act by act: asks that wait for one another, mutations under them, and the checks between them.
 
-use crate::calls::{one_entry, one_name};
+use crate::calls::{one_name, one_pair};
 use crate::player::Player;
 use ask_history::{Answer, Call, Effect, Turn};
 use pc_terms::{NoMemory, Problem, Text};
@@ -172,11 +172,11 @@ static STOPPED: [Step; 9] = [
 
 fn change_call(alloc: Global, change: Change) -> Result<Call, NoMemory> {
     match change {
-        Change::Reload(name, text) => Ok(Call::Reload(one_entry(alloc, name, text)?)),
+        Change::Reload(name, text) => Ok(Call::Reload(one_pair(alloc, name, text)?)),
         Change::ReloadTwo(first, text, second, other) => {
-            let mut entries = one_entry(alloc, first, text)?;
-            entries.push((Text::new(alloc, second)?, Text::new(alloc, other)?))?;
-            Ok(Call::Reload(entries))
+            let mut pairs = one_pair(alloc, first, text)?;
+            pairs.push((Text::new(alloc, second)?, Text::new(alloc, other)?))?;
+            Ok(Call::Reload(pairs))
         }
         Change::Remove(name) => Ok(Call::Remove(one_name(alloc, name)?)),
         Change::RemoveTwo(first, second) => {

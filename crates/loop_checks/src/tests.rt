@@ -1,7 +1,7 @@
 //! What a core answers about the tree at an offset. In each row one ▮ marks the offset of the ask, and two the
 //! span of the tree that is found.
 
-use crate::calls::one_entry;
+use crate::calls::one_pair;
 use crate::player::Player;
 use ask_history::{Answer, Call, Effect, TreeInfo, Turn};
 use pc_terms::{NoMemory, Text, show, show_symbol};
@@ -114,7 +114,7 @@ type File<'a> = (&'a str, &'a str);
 // Reloads these files, one after the other.
 fn load(alloc: Global, player: &mut Player, files: &[File]) -> Result<bool, NoMemory> {
     for (name, text) in files {
-        let call = Call::Reload(one_entry(alloc, name, text)?);
+        let call = Call::Reload(one_pair(alloc, name, text)?);
         if !player.change(&call, false, Effect::Applies)? {
             return Ok(false);
         }

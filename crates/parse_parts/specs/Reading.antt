@@ -25,6 +25,6 @@ reader = record { start = begun; step = stepped; whole = λ s. is_nil s.frames &
 abbrev pub ComesTo : List Lexeme → State → ℕ → Option ℕ → Type 0
 ComesTo ts state reached best = reading_of reader anything ts ≡ record { state = state; reached = reached; best = best }
 
--- the state behind these tokens
+-- the state after these tokens
 abbrev pub LeadsTo : List Lexeme → State → Type 0
 LeadsTo ts state = run (reader).step ts (reader).start ≡ Some state

@@ -34,7 +34,7 @@ pub fn no_kids(alloc: Global) -> Option<Kids>
     })
 }
 
-/// The trees with one more behind them.
+/// The trees with one more after them.
 pub fn joined(kids: Option<Kids>, tall: Option<Tall>) -> Result<Option<Kids>, NoMemory>
     ensures { IfOk result (λ joined. joined ≡ spec.joined kids tall) }
 {

@@ -78,7 +78,7 @@ fn read(alloc: Global, text: &str, tokens: &[Token]) -> Result<Reading, NoMemory
     })
 }
 
-// The state behind the first `count` tokens, which are the longest type of this reading.
+// The state after the first `count` tokens, which are the longest type of this reading.
 fn state_behind(
     alloc: Global,
     text: &str,

@@ -60,7 +60,7 @@ pub struct Head {
 pub enum Bracket {
     /// `(`, and where it starts.
     Round(u32),
-    /// `[` behind a path, which starts there and has this last name.
+    /// `[` after a path, which starts there and has this last name.
     Square(u32, Name),
 }
 

@@ -1,4 +1,4 @@
--- Operands and operators as they come: an operator waits for what stands behind it, and those that bind closer than the next one go first.
+-- Operands and operators as they come: an operator waits for what stands after it, and those that bind closer than the next one go first.
 use Rattle.std.specs.Prelude.{ℕ, Bool, true, false, not, ◌&&◌, ◌||◌, ◌==◌, nat_lt, if◌then◌else◌, List, [], ◌∷◌}
 use Rattle.pc_terms.specs.declared.tree_kinds.TreeKind.TheVariants as kind
 use Rattle.positioned_trees.specs.declared.details.Name.{Name}
@@ -8,7 +8,7 @@ use Rattle.parse_patterns.specs.declared.operators.Folded.{Folded}
 use Rattle.parse_patterns.specs.declared.states.Operand.{Operand}
 use Rattle.parse_patterns.specs.declared.states.Operation.{Operation}
 
--- an operation with what stands behind it
+-- an operation with what stands after it
 abbrev pub over : Operation → Operand → Operand
 over op right = record {
   tall = node kind.CtorPat op.name.text op.name.span (from_to op.left.span.start right.span.end) (joined (alone op.left.tall) right.tall);
@@ -20,7 +20,7 @@ abbrev pub settled : List Operation → Operand → Operand
 settled [] right = right
 settled (op ∷ ops) right = settled ops (over op right)
 
--- an operation that goes before one of this level behind it
+-- an operation that goes before one of this level after it
 abbrev pub goes_first : Operation → ℕ → Bool
 goes_first op level = nat_lt level op.level || (op.level == level && not op.right)
 

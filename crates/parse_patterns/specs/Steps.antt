@@ -92,7 +92,7 @@ abbrev pub alternative_at : Current → Operand
 alternative_at (InType name type) = typed name type
 alternative_at (InInfix n) = infix_at n
 
--- the alternatives, and this one behind them
+-- the alternatives, and this one after them
 abbrev pub with_earlier : Option Earlier → Operand → Option Tall
 with_earlier None operand = operand.tall
 with_earlier (Some earlier) operand =
@@ -122,7 +122,7 @@ abbrev pub is_fresh : Option Name → List Operation → Bool
 is_fresh None [] = true
 is_fresh _ _ = false
 
--- a pattern may begin behind this newline
+-- a pattern may begin after this newline
 abbrev pub may_stand : Option Name → List Operation → Option Earlier → Newline → Bool
 may_stand binder (op ∷ ops) earlier before = is_near before
 may_stand None [] (Some earlier) before = is_no before
@@ -183,7 +183,7 @@ may_empty (Some frame) = is_zero frame.count
 abbrev pub operator_fits : List Operation → Lexeme → Bool
 operator_fits ops x = fits ops (precedence x.word) (is_right x.word)
 
--- the tokens behind an alternative
+-- the tokens after an alternative
 abbrev pub may_end : Symbol → List Frame → Lexeme → Bool
 may_end symbol.Id frames x = is_bar (id_of x) && is_no x.place.before
 may_end symbol.Comma frames x = may_part (first frames)

@@ -1,4 +1,4 @@
-//! Reads the patterns of a source: what stands behind `case`, and before `<-`.
+//! Reads the patterns of a source: what stands after `case`, and before `<-`.
 #![tactic(auto)]
 
 pub mod admitting;

@@ -1,4 +1,4 @@
-//! Operators that wait for what stands behind them.
+//! Operators that wait for what stands after them.
 
 ghost use Rattle.std.specs.Prelude.{◌≡◌, IfOk};
 ghost use Rattle.parse_parts.specs.Steps.{from_to};
@@ -12,7 +12,7 @@ use pc_terms::{NoMemory, Span, TreeKind};
 use positioned_trees::Name;
 use std::alloc::Global;
 
-/// What waits still, and what was read behind it.
+/// What waits still, and what was read after it.
 #[derive(Debug, Drop)]
 pub struct Folded {
     pub operations: Stack<Operation>,
@@ -50,7 +50,7 @@ pub fn settled(
     Ok(last)
 }
 
-/// Whether an operation goes before one of this level behind it.
+/// Whether an operation goes before one of this level after it.
 pub fn goes_first(operation: &Operation, level: u32) -> bool
     ensures { result ≡ spec.goes_first operation.now level }
 {

@@ -13,7 +13,7 @@ pub struct Operand {
     pub span: Span,
 }
 
-/// An operator with what stands before it, until it is known what stands behind it. Of two levels the higher binds closer.
+/// An operator with what stands before it, until it is known what stands after it. The higher level binds closer.
 #[derive(Debug, Drop)]
 pub struct Operation {
     pub left: Operand,
@@ -41,7 +41,7 @@ pub enum Tail {
     AtEnded(Operand),
 }
 
-/// Operands and operators, behind `x @` or not.
+/// Operands and operators, after `x @` or not.
 #[derive(Debug, Drop)]
 pub struct Infix {
     pub binder: Option<Name>,
@@ -52,7 +52,7 @@ pub struct Infix {
 /// The alternative that is read.
 #[derive(Debug, Drop)]
 pub enum Current {
-    /// `x:` or `_:`, and what the reader of types keeps of the type behind it.
+    /// `x:` or `_:`, and what the reader of types keeps of the type after it.
     InType(Name, TypeState),
     InInfix(Infix),
 }
@@ -61,7 +61,7 @@ pub enum Current {
 pub enum Bracket {
     /// `(`, and where it starts.
     Group(u32),
-    /// `(` behind a path, which starts there and has this last name.
+    /// `(` after a path, which starts there and has this last name.
     Call(u32, Name),
 }
 

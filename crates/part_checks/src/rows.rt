@@ -13,12 +13,12 @@ use std::alloc::{AllocError, Global};
 use std::process::Abort;
 use std::test::Fail;
 
-/// A text with two marks ▮, and what is read at the first mark. The second mark stands behind the part, or before
+/// A text with two marks ▮, and what is read at the first mark. The second mark stands after the part, or before
 /// the first token that no part admits. A tree is written as its number, its kind, its label, the text with its span
 /// between two marks, where the label has another span, `@` and the text with that span, and its kids between brackets.
 pub type Row = (&'static str, &'static str);
 
-// The tokens of a text, and the numbers of those behind the two marks.
+// The tokens of a text, and the numbers of those after the two marks.
 #[derive(Drop)]
 struct Marked {
     tokens: Tokens,
@@ -169,7 +169,7 @@ pub fn read_all(rt: &(impl Abort + AllocGlobal), kind: Kind, rows: &[Row]) -> Re
     Ok(())
 }
 
-/// What stands so many times before `A`, and behind it.
+/// What stands so many times before `A`, and after it.
 pub type Nest = (&'static str, &'static str);
 
 fn push_times(text: &mut String, piece: &str, times: u32) -> Result<(), AllocError> {

@@ -4,7 +4,7 @@ use crate::rows::Kind::Type;
 use crate::rows::{Nest, Row, ends_at_400_levels, is_read, read_all};
 use std::test::Fail;
 
-// a name, and a name behind a path (SLS 3.1, 3.2.1, 3.2.3)
+// a name, and a name after a path (SLS 3.1, 3.2.1, 3.2.3)
 static NAMES: [Row; 10] = [
     ("▮A▮", "0 TypeIdent A ▮A▮"),
     ("val x: ▮Int▮ = 1", "0 TypeIdent Int val x: ▮Int▮ = 1"),
@@ -227,7 +227,7 @@ static FUNCTIONS: [Row; 12] = [
     ),
 ];
 
-// what may stand behind a type is no part of it
+// what may stand after a type is no part of it
 static ENDS: [Row; 14] = [
     (
         "class C extends ▮A▮ with B",

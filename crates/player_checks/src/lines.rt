@@ -33,11 +33,11 @@ fn is_name(name: &str) -> bool
     }
 }
 
-fn has_entry_names(entries: &[(Text, Text)]) -> bool
-    ensures { OnTrue result (list_all (λ entry. is_file_name entry.0) entries.now ≡ true) }
+fn has_pair_names(pairs: &[(Text, Text)]) -> bool
+    ensures { OnTrue result (list_all (λ pair. is_file_name pair.0) pairs.now ≡ true) }
 {
-    for entry in entries {
-        if !is_name(entry.0.as_str()) {
+    for pair in pairs {
+        if !is_name(pair.0.as_str()) {
             return false;
         }
     }
@@ -60,9 +60,9 @@ fn can_post(call: &Call) -> bool
     ensures few { OnTrue result (length (reloaded_by call.now) < 2 ^ 32) }
 {
     match call {
-        Call::Reload(entries) => {
-            let entries = entries.as_slice();
-            entries.len() < 1000 && has_entry_names(entries)
+        Call::Reload(pairs) => {
+            let pairs = pairs.as_slice();
+            pairs.len() < 1000 && has_pair_names(pairs)
         }
         Call::Remove(names) => has_names(names.as_slice()),
         Call::TypeAt(file, _) | Call::MembersAt(file, _) | Call::ScopeAt(file, _) => is_name(

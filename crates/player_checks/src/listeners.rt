@@ -8,7 +8,7 @@ use std::alloc::Global;
 use std::sync::Arc;
 use std::sync::atomic::{AtomicU64, Ordering};
 
-/// It adds a digit to the log for each entry: its own for a file whose name begins with `A`, and the next one for
+/// It adds a digit to the log for each finding: its own for a file whose name begins with `A`, and the next one for
 /// another file. It takes no problems.
 pub struct Listener {
     pub digit: u64,

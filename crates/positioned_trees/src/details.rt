@@ -45,7 +45,7 @@ pub enum ParamKeyword {
     Var,
 }
 
-/// What stands behind the head of a `def`.
+/// What stands after the head of a `def`.
 #[derive(Clone, Copy, Debug, PartialEq, Eq)]
 pub enum RightSide {
     /// Nothing: it is a declaration.
@@ -69,7 +69,7 @@ pub enum Selector {
     Wildcard(Span),
 }
 
-/// One of the expressions of an import, which stand behind each other with commas between them.
+/// One of the expressions of an import, which stand one after another with commas between them.
 #[derive(Debug, Drop)]
 pub struct ImportClause {
     pub span: Span,

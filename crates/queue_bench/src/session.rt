@@ -107,10 +107,10 @@ fn reload(alloc: Global) -> Result<Call, NoMemory>
     ensures few { IfOk result (λ call. length (reloaded_by call) < 2 ^ 32) }
     ensures names { IfOk result (λ call. has_file_names call ≡ true) }
 {
-    let mut entries = Row::new(alloc);
+    let mut pairs = Row::new(alloc);
     let name = Text::new(alloc, "A.scala")?;
-    entries.push((name, Text::new(alloc, "object A { val x = 1 }")?))?;
-    Ok(Call::Reload(entries))
+    pairs.push((name, Text::new(alloc, "object A { val x = 1 }")?))?;
+    Ok(Call::Reload(pairs))
 }
 
 fn ask(alloc: Global) -> Result<Call, NoMemory>

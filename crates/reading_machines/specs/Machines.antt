@@ -26,7 +26,7 @@ pub record Reading (S : Type 0) : Type 0 where
 abbrev pub noted : Bool → ℕ → Option ℕ → Option ℕ
 noted passes n best = if passes then Some n else best
 
--- The machine goes on from a state after n tokens, up to the first that it does not admit. `follows` says what may stand behind a part.
+-- The machine goes on from a state after n tokens, up to the first that it does not admit. `follows` says what may stand after a part.
 abbrev pub reading : {S T : Type 0} → Machine S T → (List T → Bool) → List T → ℕ → Option ℕ → S → Reading S
 reading m follows [] n best s = record { state = s; reached = n; best = noted (m.whole s && follows []) n best }
 reading m follows (t ∷ ts) n best s =

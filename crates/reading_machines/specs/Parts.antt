@@ -1,8 +1,8 @@
 -- Where a part of a grammar begins a list of tokens. `Is` says of which lists the whole is such a part, and `follows` what may stand
--- behind the part.
+-- after the part.
 use Rattle.std.specs.Prelude.{◌≡◌, ◌+◌, ◌<◌, ◌≤◌, ℕ, Bool, true, List, ◌++◌, length, take, drop, Option, Some, None}
 
--- others can stand behind these so that the whole is a part
+-- others can stand after these so that the whole is a part
 pub record CanBegin {T : Type 0} (Is : List T → Type 0) (front : List T) : Type 0 where
   pub others : List T
   pub part : Is (front ++ others)
@@ -24,7 +24,7 @@ pub record IsStuckAt {T : Type 0} (Is : List T → Type 0) (ts : List T) (n : �
   pub begins : CanBegin Is (take n ts)
   pub stuck : n < length ts → CanBegin Is (take (n + 1) ts) → ⊥
 
--- anything may stand behind a part
+-- anything may stand after a part
 abbrev pub anything : {T : Type 0} → List T → Bool
 anything ts = true
 

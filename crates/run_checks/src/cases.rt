@@ -27,7 +27,7 @@ pub struct Case {
     /// What is printed; not looked at where it is `ANYTHING`.
     pub out: &'static str,
     pub err: &'static str,
-    /// A digit for each entry that the reporter was told.
+    /// A digit for each finding that the reporter was told.
     pub told: u64,
 }
 

@@ -8,7 +8,7 @@ use std::alloc::Global;
 use std::sync::Arc;
 use std::sync::atomic::{AtomicU64, Ordering};
 
-// It writes a digit for each entry at the end of the log: 1 for a file whose name begins with `A`, and 2 for another.
+// It writes a digit for each finding at the end of the log: 1 for a file whose name begins with `A`, and 2 for another.
 // It takes no problems.
 pub struct Listener {
     told: Row<(Text, Row<Problem>)>,

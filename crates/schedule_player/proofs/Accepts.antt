@@ -29,10 +29,10 @@ use Rattle.schedule_player.specs.Around.{HasMarks, ending, asks_of, fed_of, onto
 use Rattle.schedule_player.specs.Steps.{IsPlaced, PlaysOrder}
 use Rattle.schedule_player.specs.SessionState.{SessionState}
 use Rattle.schedule_player.specs.InStep.{IsAsked, IsNoted, IsServed, InStep, IsAhead, ChecksInStep}
-use Rattle.schedule_player.specs.declared.session.Found.{Found}
-use Rattle.schedule_player.specs.declared.frames.Work.{Work}
-use Rattle.schedule_player.specs.declared.frames.Work.TheVariants.{Ask, Passed}
-use Rattle.schedule_player.specs.declared.frames.Frame.{Frame}
+use Rattle.schedule_player.specs.declared.session.Pending.{Pending}
+use Rattle.schedule_player.specs.declared.outers.Work.{Work}
+use Rattle.schedule_player.specs.declared.outers.Work.TheVariants.{Ask, Passed}
+use Rattle.schedule_player.specs.declared.outers.Outer.{Outer}
 use Rattle.schedule_player.proofs.Served.{asked_stays}
 use Rattle.schedule_player.proofs.Pushing.{after-push, checked-push, cancelled_called}
 use Rattle.schedule_player.proofs.Noted.{noted_accept, noted_settle}
@@ -98,45 +98,45 @@ module _ (answer_of : Sources → Call → Answer) (problems_of : Sources → By
 
   -- ---- an ask
 
-  module _ (ask : is_mutation call ≡ false) (placed : IsPlaced session.frames) (fed : Bool) where
+  module _ (ask : is_mutation call ≡ false) (placed : IsPlaced session.outers) (fed : Bool) where
     abbrev pub asking : SessionState
-    asking = record opened { frames = with_work (Ask (accepted session.journal) fed 0) session.frames }
+    asking = record opened { outers = with_work (Ask (accepted session.journal) fed 0) session.outers }
 
     abbrev pub asking_state : EngineState
     asking_state = if fed then record state { asks = state.asks ++ (accepted session.journal, call) ∷ [] } else state
 
-    frames_is : with_work (Ask ticket fed 0) session.frames ≡ record { level = placed.level; under_ask = top_under_ask placed.around || true; work = Ask ticket fed 0 } ∷ placed.around
-    frames_is = ap (with_work (Ask ticket fed 0)) placed.is
+    outers_is : with_work (Ask ticket fed 0) session.outers ≡ record { level = placed.level; under_ask = top_under_ask placed.around || true; work = Ask ticket fed 0 } ∷ placed.around
+    outers_is = ap (with_work (Ask ticket fed 0)) placed.is
 
-    asking_asks : asks_of asking.frames ≡ ticket ∷ asks_of session.frames
-    asking_asks = ap asks_of frames_is ∙ ap (λ fs. ticket ∷ asks_of fs) (sym placed.is)
+    asking_asks : asks_of asking.outers ≡ ticket ∷ asks_of session.outers
+    asking_asks = ap asks_of outers_is ∙ ap (λ fs. ticket ∷ asks_of fs) (sym placed.is)
 
-    asking_fed : fed_of asking.frames ≡ (if fed then fed_of session.frames ++ ticket ∷ [] else fed_of session.frames)
-    asking_fed = ap fed_of frames_is ∙ ap (λ fs. if fed then fed_of fs ++ ticket ∷ [] else fed_of fs) (sym placed.is)
+    asking_fed : fed_of asking.outers ≡ (if fed then fed_of session.outers ++ ticket ∷ [] else fed_of session.outers)
+    asking_fed = ap fed_of outers_is ∙ ap (λ fs. if fed then fed_of fs ++ ticket ∷ [] else fed_of fs) (sym placed.is)
 
-    asking_stacked : AreStacked asking.frames
+    asking_stacked : AreStacked asking.outers
     asking_stacked =
         let below : AreStacked (onto placed.level placed.around) = subst AreStacked placed.is step.stacked in
         let new : list_any (λ u. u == ticket) (asks_of placed.around) ≡ false =
-        subst (λ fs. list_any (λ u. u == accepted session.journal) (asks_of fs) ≡ false) placed.is (is_new (asks_of session.frames) session.journal step.holds shut (length session.tickets) call) in
-        subst AreStacked (sym frames_is) (new, refl, below.2)
+        subst (λ fs. list_any (λ u. u == accepted session.journal) (asks_of fs) ≡ false) placed.is (is_new (asks_of session.outers) session.journal step.holds shut (length session.tickets) call) in
+        subst AreStacked (sym outers_is) (new, refl, below.2)
 
     asking_served : (f : Bool) → fed ≡ f → IsServed asking (if f then record state { asks = state.asks ++ (accepted session.journal, call) ∷ [] } else state)
     asking_served true e = record {
       fed = map-append (λ a. a.0) state.asks ((ticket, call) ∷ [])
-          ∙ ap (λ ts. ts ++ ticket ∷ []) (step.served.fed ∙ ap (λ b. if b then [] else fed_of session.frames) live)
-          ∙ ap (λ b. if b then fed_of session.frames ++ ticket ∷ [] else fed_of session.frames) (sym e)
+          ∙ ap (λ ts. ts ++ ticket ∷ []) (step.served.fed ∙ ap (λ b. if b then [] else fed_of session.outers) live)
+          ∙ ap (λ b. if b then fed_of session.outers ++ ticket ∷ [] else fed_of session.outers) (sym e)
           ∙ sym asking_fed
-          ∙ sym (ap (λ b. if b then [] else fed_of asking.frames) live);
+          ∙ sym (ap (λ b. if b then [] else fed_of asking.outers) live);
       asked = All-push (IsAsked (session.journal ++ event ∷ [])) state.asks (ticket, call) (asked_stays session.journal event state.asks step.served.asked) (record { call = called_now; asks = ask });
       staged = step.served.staged;
       sources = step.served.sources ∙ sym same_after;
     }
     asking_served false e = record {
-      fed = step.served.fed ∙ ap (λ b. if b then [] else fed_of session.frames) live
-          ∙ ap (λ b. if b then fed_of session.frames ++ ticket ∷ [] else fed_of session.frames) (sym e)
+      fed = step.served.fed ∙ ap (λ b. if b then [] else fed_of session.outers) live
+          ∙ ap (λ b. if b then fed_of session.outers ++ ticket ∷ [] else fed_of session.outers) (sym e)
           ∙ sym asking_fed
-          ∙ sym (ap (λ b. if b then [] else fed_of asking.frames) live);
+          ∙ sym (ap (λ b. if b then [] else fed_of asking.outers) live);
       asked = asked_stays session.journal event state.asks step.served.asked;
       staged = step.served.staged;
       sources = step.served.sources ∙ sym same_after;
@@ -145,14 +145,14 @@ module _ (answer_of : Sources → Call → Answer) (problems_of : Sources → By
     pub asking_in_step : InStep answer_of problems_of asking asking_state
     asking_in_step = record {
       holds = subst (λ ts. Holds ts (session.journal ++ event ∷ [])) (sym asking_asks)
-          (holds-accept (asks_of session.frames) session.journal step.holds shut (length session.tickets) call ask);
+          (holds-accept (asks_of session.outers) session.journal step.holds shut (length session.tickets) call ask);
       stacked = asking_stacked;
       closed = live ∙ sym opened_shut;
       noted = let n = opened_noted in record { numbered = n.numbered; counted = n.counted; answers = n.answers; problems = n.problems };
       served = asking_served fed refl;
     }
 
-    ahead_stays : (found : Option Found) (names : List Bytes) → IsAhead problems_of session.journal found names → IsAhead problems_of (session.journal ++ event ∷ []) found names
+    ahead_stays : (found : Option Pending) (names : List Bytes) → IsAhead problems_of session.journal found names → IsAhead problems_of (session.journal ++ event ∷ []) found names
     ahead_stays None names h = h ∙ sym same_checked
     ahead_stays (Some f) names h = (
       h.0 ∙ ap (λ ns. ns ++ f.file ∷ []) (sym same_checked),
@@ -171,7 +171,7 @@ module _ (answer_of : Sources → Call → Answer) (problems_of : Sources → By
     pub asking_plays : PlaysOrder (order.Call call) session asking
     asking_plays = record {
       work = Ask ticket fed 0;
-      frames = refl;
+      outers = refl;
       number = length-append session.tickets (Some ticket ∷ []);
       marks = λ without h. marks_front without session.journal (event ∷ []) h;
       plays = λ without parts h.
@@ -185,8 +185,8 @@ module _ (answer_of : Sources → Call → Answer) (problems_of : Sources → By
     abbrev journal : List Event
     journal = (session.journal ++ Accept (accepted session.journal) 0 (length session.tickets) call ∷ []) ++ Settle (accepted session.journal) m ∷ []
 
-    held : Holds (asks_of session.frames) journal
-    held = holds-mutation (asks_of session.frames) session.journal step.holds shut (length session.tickets) call m
+    held : Holds (asks_of session.outers) journal
+    held = holds-mutation (asks_of session.outers) session.journal step.holds shut (length session.tickets) call m
 
     may : IsTrue (may_follow (session.journal ++ event ∷ []) (Settle ticket m))
     may = (and_parts (is_legal (session.journal ++ event ∷ [])) (may_follow (session.journal ++ event ∷ []) (Settle ticket m))
@@ -215,7 +215,7 @@ module _ (answer_of : Sources → Call → Answer) (problems_of : Sources → By
     settled_shut : is_closed journal ≡ false
     settled_shut = list_any-push is_close (session.journal ++ event ∷ []) (Settle ticket m) ∙ or-false (is_closed (session.journal ++ event ∷ [])) ∙ opened_shut
 
-    module _ (value : Answer) (right : value ≡ reply answer_of (session.journal ++ event ∷ []) ticket m) (found_new : Option Found) where
+    module _ (value : Answer) (right : value ≡ reply answer_of (session.journal ++ event ∷ []) ticket m) (found_new : Option Pending) where
       abbrev pub mutating : SessionState
       mutating = record session {
         journal = (session.journal ++ Accept (accepted session.journal) 0 (length session.tickets) call ∷ []) ++ Settle (accepted session.journal) m ∷ [];
@@ -245,10 +245,10 @@ module _ (answer_of : Sources → Call → Answer) (problems_of : Sources → By
         };
       }
 
-      pub mutating_plays : (placed : IsPlaced session.frames) → PlaysOrder (order.Call call) session mutating
+      pub mutating_plays : (placed : IsPlaced session.outers) → PlaysOrder (order.Call call) session mutating
       mutating_plays placed = record {
         work = Passed;
-        frames = placed.is ∙ (λ j. record { level = placed.level; under_ask = sym (or-false (top_under_ask placed.around)) j; work = Passed } ∷ placed.around) ∙ sym (ap (with_work Passed) placed.is);
+        outers = placed.is ∙ (λ j. record { level = placed.level; under_ask = sym (or-false (top_under_ask placed.around)) j; work = Passed } ∷ placed.around) ∙ sym (ap (with_work Passed) placed.is);
         number = length-append session.tickets (Some ticket ∷ []);
         marks = λ without h. marks_front without session.journal (event ∷ []) (marks_front without (session.journal ++ event ∷ []) (Settle ticket m ∷ []) h);
         plays = λ without parts h.

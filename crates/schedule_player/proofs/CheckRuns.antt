@@ -12,8 +12,8 @@ use Rattle.ask_history.proofs.Idles.{checks_end, due-fewer}
 use Rattle.schedule_player.specs.Around.{HasMarks, ending, in_check}
 use Rattle.schedule_player.specs.Steps.{Ends, KeepsLine, ChecksOn, IsSameButChecks, IsOfChecks}
 use Rattle.schedule_player.specs.SessionState.{SessionState}
-use Rattle.schedule_player.specs.declared.frames.Work.{Work}
-use Rattle.schedule_player.specs.declared.frames.Work.TheVariants.{Ask, Checks, Check, Beside, Passed}
+use Rattle.schedule_player.specs.declared.outers.Work.{Work}
+use Rattle.schedule_player.specs.declared.outers.Work.TheVariants.{Ask, Checks, Check, Beside, Passed}
 use Rattle.schedule_player.proofs.Ending.{marks_front}
 
 -- where no check begins, nothing is checked
@@ -123,7 +123,7 @@ checks_ended Beside old new is settled on h = absurd is
 checks_ended Passed old new is settled on h = absurd is
 
 pub same_but_checks : {old now new : SessionState} → IsSameButChecks old now → IsSameButChecks now new → IsSameButChecks old new
-same_but_checks a b = record { frames = b.frames ∙ a.frames; tickets = b.tickets ∙ a.tickets; closed = b.closed ∙ a.closed }
+same_but_checks a b = record { outers = b.outers ∙ a.outers; tickets = b.tickets ∙ a.tickets; closed = b.closed ∙ a.closed }
 
 -- ---- where the next line under checks stands
 

@@ -24,7 +24,7 @@ use Rattle.schedule_player.specs.Around.{asks_of, fed_of}
 use Rattle.schedule_player.specs.Steps.{Says, IsSameButFound}
 use Rattle.schedule_player.specs.SessionState.{SessionState}
 use Rattle.schedule_player.specs.InStep.{IsAsked, IsNoted, IsServed, InStep, IsAhead, ChecksInStep}
-use Rattle.schedule_player.specs.declared.session.Found.{Found}
+use Rattle.schedule_player.specs.declared.session.Pending.{Pending}
 use Rattle.schedule_player.specs.declared.checks.Step.TheVariants as step
 use Rattle.schedule_player.proofs.Tops.{fed_none}
 use Rattle.schedule_player.proofs.Served.{asked_stays}
@@ -53,9 +53,9 @@ settled_alone journal holds = settled_tickets (is_settled journal) journal calle
         (ap (λ b. b && not (is_settled journal t)) (sym there) ∙ holds.opens t ∙ and_right (not (is_closed journal)) false refl)
 
 module _ (answer_of : Sources → Call → Answer) (problems_of : Sources → Bytes → List Problem) (session : SessionState) (state : EngineState)
-    (in_step : InStep answer_of problems_of session state) (checks : ChecksInStep problems_of session state) (alone : asks_of session.frames ≡ []) where
+    (in_step : InStep answer_of problems_of session state) (checks : ChecksInStep problems_of session state) (alone : asks_of session.outers ≡ []) where
   pub no_asks : state.asks ≡ []
-  no_asks = no_map (λ ask. ask.0) state.asks (in_step.served.fed ∙ if_none session.closed (fed_of session.frames) (fed_none session.frames alone))
+  no_asks = no_map (λ ask. ask.0) state.asks (in_step.served.fed ∙ if_none session.closed (fed_of session.outers) (fed_none session.outers alone))
 
   pub held_alone : Holds [] session.journal
   held_alone = subst (λ ts. Holds ts session.journal) alone in_step.holds
@@ -93,7 +93,7 @@ module _ (answer_of : Sources → Call → Answer) (problems_of : Sources → By
     found_due file is = (is.1, sym due_is ∙ is.2)
 
   -- an engine that differs in what it checked or skipped
-  pub other_served : (new : EngineState) (found : Option Found) → new.asks ≡ state.asks → new.staged ≡ state.staged → new.sources ≡ state.sources
+  pub other_served : (new : EngineState) (found : Option Pending) → new.asks ≡ state.asks → new.staged ≡ state.staged → new.sources ≡ state.sources
       → InStep answer_of problems_of (record session { found = found }) new
   other_served new found asks staged sources = record {
     holds = in_step.holds;
@@ -110,7 +110,7 @@ module _ (answer_of : Sources → Call → Answer) (problems_of : Sources → By
 
   -- ---- a check that is noted
 
-  module _ (live : session.closed ≡ false) (f : Found) (is : session.found ≡ Some f) where
+  module _ (live : session.closed ≡ false) (f : Pending) (is : session.found ≡ Some f) where
     ahead : IsAhead problems_of session.journal (Some f) state.checked
     ahead = subst (λ o. IsAhead problems_of session.journal o state.checked) is checks.ahead
 
@@ -135,7 +135,7 @@ module _ (answer_of : Sources → Call → Answer) (problems_of : Sources → By
     pub noted_in_step : InStep answer_of problems_of (record session { journal = session.journal ++ Checked f.file ∷ []; problems = session.problems ++ f.problems ∷ []; found = None }) state
     unfolding Keeps
     noted_in_step = record {
-      holds = subst (Holds (asks_of session.frames)) done_is (keeps-check_done (asks_of session.frames) session.journal in_step.holds);
+      holds = subst (Holds (asks_of session.outers)) done_is (keeps-check_done (asks_of session.outers) session.journal in_step.holds);
       stacked = in_step.stacked;
       closed = in_step.closed ∙ sym (list_any-push is_close session.journal (Checked f.file) ∙ or-false (is_closed session.journal));
       noted = let n = noted_check answer_of problems_of session in_step.noted f.file f.problems ahead.1 in
@@ -170,8 +170,8 @@ same_journal {old} {new} s = ap {A = SessionState} (λ x. x.journal) s.same
 pub same_closed : {old new : SessionState} → IsSameButFound old new → new.closed ≡ old.closed
 same_closed {old} {new} s = ap {A = SessionState} (λ x. x.closed) s.same
 
-pub same_frames : {old new : SessionState} → IsSameButFound old new → new.frames ≡ old.frames
-same_frames {old} {new} s = ap {A = SessionState} (λ x. x.frames) s.same
+pub same_outers : {old new : SessionState} → IsSameButFound old new → new.outers ≡ old.outers
+same_outers {old} {new} s = ap {A = SessionState} (λ x. x.outers) s.same
 
 pub same_tickets : {old new : SessionState} → IsSameButFound old new → new.tickets ≡ old.tickets
 same_tickets {old} {new} s = ap {A = SessionState} (λ x. x.tickets) s.same

@@ -22,8 +22,8 @@ use Rattle.schedule_player.specs.Around.{HasMarks}
 use Rattle.schedule_player.specs.Steps.{IsPlaced, PlaysOrder}
 use Rattle.schedule_player.specs.SessionState.{SessionState}
 use Rattle.schedule_player.specs.InStep.{IsAsked, IsNoted, IsServed, InStep, IsAhead, ChecksInStep, answer_at}
-use Rattle.schedule_player.specs.declared.session.Found.{Found}
-use Rattle.schedule_player.specs.declared.frames.Work.TheVariants.{Passed}
+use Rattle.schedule_player.specs.declared.session.Pending.{Pending}
+use Rattle.schedule_player.specs.declared.outers.Work.TheVariants.{Passed}
 use Rattle.schedule_player.proofs.Pushing.{ticket_of-push, or-none, after-push, checked-push, reply_in-push, findings-push, none_yet}
 use Rattle.schedule_player.proofs.Ending.{marks_front}
 use Rattle.schedule_player.proofs.Orders.{placed_passed}
@@ -143,7 +143,7 @@ module _ (answer_of : Sources → Call → Answer) (problems_of : Sources → By
     };
   }
 
-  close_ahead : (found : Option Found) (names : List Bytes) → IsAhead problems_of session.journal found names → IsAhead problems_of (after_close session.journal) found names
+  close_ahead : (found : Option Pending) (names : List Bytes) → IsAhead problems_of session.journal found names → IsAhead problems_of (after_close session.journal) found names
   close_ahead None names h = h ∙ sym said.checks
   close_ahead (Some f) names h = (
     h.0 ∙ ap (λ ns. ns ++ f.file ∷ []) (sym said.checks),
@@ -162,10 +162,10 @@ close_marks without journal h = by (is_closed journal) h
     by true k = k
     by false k = marks_front without journal (Close ∷ settled (open_tickets journal)) k
 
-pub close_plays : (old new : SessionState) → new ≡ record old { journal = after_close old.journal; closed = true } → IsPlaced old.frames → PlaysOrder order.Close old new
+pub close_plays : (old new : SessionState) → new ≡ record old { journal = after_close old.journal; closed = true } → IsPlaced old.outers → PlaysOrder order.Close old new
 close_plays old new e placed = record {
   work = Passed;
-  frames = ap {A = SessionState} (λ s. s.frames) e ∙ placed_passed old.frames placed;
+  outers = ap {A = SessionState} (λ s. s.outers) e ∙ placed_passed old.outers placed;
   number = ap {A = SessionState} (λ s. length s.tickets) e;
   marks = λ without h. close_marks without old.journal (subst (λ s. HasMarks without s.journal) e h);
   plays = λ without parts h. ap {A = SessionState} (λ s. s.journal) (sym e);

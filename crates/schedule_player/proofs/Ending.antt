@@ -10,9 +10,9 @@ use Rattle.ask_history.specs.declared.events.Event.TheVariants.{Settle}
 use Rattle.ask_history.proofs.Underway.{Holds, is_among}
 use Rattle.schedule_player.specs.Around.{HasMark, HasMarks, ending, asks_of, top_work}
 use Rattle.schedule_player.specs.Steps.{Ends, top_ask}
-use Rattle.schedule_player.specs.declared.frames.Work.{Work}
-use Rattle.schedule_player.specs.declared.frames.Work.TheVariants.{Ask, Beside, Passed}
-use Rattle.schedule_player.specs.declared.frames.Frame.{Frame}
+use Rattle.schedule_player.specs.declared.outers.Work.{Work}
+use Rattle.schedule_player.specs.declared.outers.Work.TheVariants.{Ask, Beside, Passed}
+use Rattle.schedule_player.specs.declared.outers.Outer.{Outer}
 use Rattle.schedule_player.proofs.Served.{all_front, all_back}
 use Rattle.schedule_player.proofs.Tops.{work_is}
 
@@ -22,21 +22,21 @@ marks_front without journal more h = all_front (HasMark without) journal more h
 pub mark_last : (without : List ℕ) (journal : List Event) (ticket : ℕ) (m : Mark) → HasMarks without (journal ++ Settle ticket m ∷ []) → mark_of without ticket ≡ m
 mark_last without journal ticket m h = All-head (HasMark without) (Settle ticket m) [] (all_back (HasMark without) journal (Settle ticket m ∷ []) h)
 
-module _ (frames : List Frame) (ticket : ℕ) (fed : Bool) (top : top_ask frames ≡ Some (ticket, fed)) (journal : List Event) where
-  ask_ending : (without : List ℕ) → ending without (top_work frames) [] journal ≡ settle_open ticket (mark_of without ticket) journal
-  ask_ending without = ap (λ w. ending without w [] journal) (work_is (top_work frames) ticket fed top).1
+module _ (outers : List Outer) (ticket : ℕ) (fed : Bool) (top : top_ask outers ≡ Some (ticket, fed)) (journal : List Event) where
+  ask_ending : (without : List ℕ) → ending without (top_work outers) [] journal ≡ settle_open ticket (mark_of without ticket) journal
+  ask_ending without = ap (λ w. ending without w [] journal) (work_is (top_work outers) ticket fed top).1
 
   -- where the session is shut down, the ask is settled
-  pub ends_closed : Holds (asks_of frames) journal → is_closed journal ≡ true → Ends (top_work frames) journal journal
+  pub ends_closed : Holds (asks_of outers) journal → is_closed journal ≡ true → Ends (top_work outers) journal journal
   ends_closed holds closed = record {
     marks = λ without h. h;
     ends = λ without h. ask_ending without
         ∙ ap (λ b. if b then journal ++ Settle ticket (mark_of without ticket) ∷ [] else journal)
-        (holds.opens ticket ∙ ap (λ b. not b && is_among (asks_of frames) ticket) closed);
+        (holds.opens ticket ∙ ap (λ b. not b && is_among (asks_of outers) ticket) closed);
   }
 
   -- and else it is settled now
-  pub ends_settled : (m : Mark) → is_open journal ticket ≡ true → Ends (top_work frames) journal (journal ++ Settle ticket m ∷ [])
+  pub ends_settled : (m : Mark) → is_open journal ticket ≡ true → Ends (top_work outers) journal (journal ++ Settle ticket m ∷ [])
   ends_settled m open_ = record {
     marks = λ without h. marks_front without journal (Settle ticket m ∷ []) h;
     ends = λ without h. ask_ending without

@@ -14,9 +14,9 @@ use Rattle.ask_history.specs.declared.events.Event.TheVariants.{Accept, Cancel, 
 use Rattle.ask_history.specs.declared.script.Order.{Order}
 use Rattle.ask_history.specs.declared.script.Order.TheVariants as order
 use Rattle.schedule_player.specs.Around.{ending, in_check, resume}
-use Rattle.schedule_player.specs.declared.frames.Work.{Work}
-use Rattle.schedule_player.specs.declared.frames.Work.TheVariants.{Ask, Checks, Check, Beside, Passed}
-use Rattle.schedule_player.specs.declared.frames.Frame.{Frame}
+use Rattle.schedule_player.specs.declared.outers.Work.{Work}
+use Rattle.schedule_player.specs.declared.outers.Work.TheVariants.{Ask, Checks, Check, Beside, Passed}
+use Rattle.schedule_player.specs.declared.outers.Outer.{Outer}
 
 pub record IsMore (old new : List Event) : Type 0 where
   pub more : List Event
@@ -125,10 +125,10 @@ grows-ending without (Check number turns) (part ∷ parts) grow journal =
 grows-ending without Beside parts grow journal = grows-all parts grow journal
 grows-ending without Passed parts grow journal = more_none journal
 
-pub grows-resume : (without : List ℕ) (frames : List Frame) (rest : Nested) (journal : List Event) → IsMore journal (resume without frames rest journal)
+pub grows-resume : (without : List ℕ) (outers : List Outer) (rest : Nested) (journal : List Event) → IsMore journal (resume without outers rest journal)
 unfolding Grows
 grows-resume without [] rest journal = grows-all (parts_of without rest) (grow-parts without rest) journal
-grows-resume without (frame ∷ frames) rest journal =
-    more_then journal (ending without frame.work (parts_of without (deeper frame.level rest)) journal) _
-    (grows-ending without frame.work (parts_of without (deeper frame.level rest)) (grow-parts without (deeper frame.level rest)) journal)
-    (grows-resume without frames (others frame.level rest) (ending without frame.work (parts_of without (deeper frame.level rest)) journal))
+grows-resume without (outer ∷ outers) rest journal =
+    more_then journal (ending without outer.work (parts_of without (deeper outer.level rest)) journal) _
+    (grows-ending without outer.work (parts_of without (deeper outer.level rest)) (grow-parts without (deeper outer.level rest)) journal)
+    (grows-resume without outers (others outer.level rest) (ending without outer.work (parts_of without (deeper outer.level rest)) journal))

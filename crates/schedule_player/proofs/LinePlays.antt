@@ -12,9 +12,9 @@ use Rattle.ask_history.proofs.Plainly.{all_of-before}
 use Rattle.schedule_player.specs.Around.{HasMarks, LeadsTo, ComesAt, resume, ending, top_work, with_work, top_under_ask, onto, is_ask}
 use Rattle.schedule_player.specs.Steps.{IsUnder, HasCome, PlaysOrder, PlaysLine, KeepsNext, EndsTo, Reaches}
 use Rattle.schedule_player.specs.SessionState.{SessionState}
-use Rattle.schedule_player.specs.declared.frames.Work.{Work}
-use Rattle.schedule_player.specs.declared.frames.Work.TheVariants.{Ask, Checks, Check, Beside, Passed}
-use Rattle.schedule_player.specs.declared.frames.Frame.{Frame}
+use Rattle.schedule_player.specs.declared.outers.Work.{Work}
+use Rattle.schedule_player.specs.declared.outers.Work.TheVariants.{Ask, Checks, Check, Beside, Passed}
+use Rattle.schedule_player.specs.declared.outers.Outer.{Outer}
 use Rattle.schedule_player.proofs.Resumes.{in_check_one}
 use Rattle.schedule_player.proofs.Arrivals.{resume_under}
 
@@ -27,27 +27,27 @@ ending_one without Beside check one parts journal come = all_of-before check one
 ending_one without Passed check one parts journal come = absurd come
 
 -- the first line under those around it
-resume_one : (without : List ℕ) (frames : List Frame) (number : ℕ) (line : Line) (inner rest : Nested) (journal : List Event) → IsUnder frames line.level → HasCome (top_work frames) line.check
-    → resume without frames (Then number line inner rest) journal ≡ resume without frames rest (play_line without number line.order (parts_of without inner) journal)
+resume_one : (without : List ℕ) (outers : List Outer) (number : ℕ) (line : Line) (inner rest : Nested) (journal : List Event) → IsUnder outers line.level → HasCome (top_work outers) line.check
+    → resume without outers (Then number line inner rest) journal ≡ resume without outers rest (play_line without number line.order (parts_of without inner) journal)
 resume_one without [] number line inner rest journal under come = all_of-before line.check (play_line without number line.order (parts_of without inner)) (parts_of without rest) journal
-resume_one without (frame ∷ frames) number line inner rest journal under come =
-    resume_under without frame frames number line inner rest journal under
-    ∙ ap (resume without frames (others frame.level rest)) (ending_one without frame.work line.check (play_line without number line.order (parts_of without inner)) (parts_of without (deeper frame.level rest)) journal come)
+resume_one without (outer ∷ outers) number line inner rest journal under come =
+    resume_under without outer outers number line inner rest journal under
+    ∙ ap (resume without outers (others outer.level rest)) (ending_one without outer.work line.check (play_line without number line.order (parts_of without inner)) (parts_of without (deeper outer.level rest)) journal come)
 
 -- a line of which the order is played
-pub order_plays : (line : Line) (old pushed new : SessionState) → pushed ≡ record old { frames = onto line.level old.frames } → PlaysOrder line.order pushed new
-    → IsUnder old.frames line.level → HasCome (top_work old.frames) line.check → PlaysLine line old new
+pub order_plays : (line : Line) (old pushed new : SessionState) → pushed ≡ record old { outers = onto line.level old.outers } → PlaysOrder line.order pushed new
+    → IsUnder old.outers line.level → HasCome (top_work old.outers) line.check → PlaysLine line old new
 order_plays line old pushed new e order under come = record {
   leads = λ lines rest k. record {
     leads = λ without h.
-        let now : new.frames ≡ record { level = line.level; under_ask = top_under_ask old.frames || is_ask order.work; work = order.work } ∷ old.frames =
-        order.frames ∙ ap {A = SessionState} (λ s. with_work order.work s.frames) e in
+        let now : new.outers ≡ record { level = line.level; under_ask = top_under_ask old.outers || is_ask order.work; work = order.work } ∷ old.outers =
+        order.outers ∙ ap {A = SessionState} (λ s. with_work order.work s.outers) e in
         let journal : pushed.journal ≡ old.journal = ap {A = SessionState} (λ s. s.journal) e in
         let number : length pushed.tickets ≡ length old.tickets = ap {A = SessionState} (λ s. length s.tickets) e in
         ap (λ ws. resume without ws rest new.journal) now
-        ∙ ap (resume without old.frames (others line.level rest)) (sym (order.plays without (parts_of without (deeper line.level rest)) h)
+        ∙ ap (resume without old.outers (others line.level rest)) (sym (order.plays without (parts_of without (deeper line.level rest)) h)
         ∙ (λ j. play_line without (number j) line.order (parts_of without (deeper line.level rest)) (journal j)))
-        ∙ sym (resume_one without old.frames (length old.tickets) line (deeper line.level rest) (others line.level rest) old.journal under come)
+        ∙ sym (resume_one without old.outers (length old.tickets) line (deeper line.level rest) (others line.level rest) old.journal under come)
         ∙ k.leads without (subst (HasMarks without) journal (order.marks without h));
   };
   number = order.number ∙ ap {A = SessionState} (λ s. number_after line.order (length s.tickets)) e;
@@ -68,25 +68,25 @@ others_others low high h (Then number line inner rest) = by (nat_lt high line.le
     by false e next = refl
 
 -- a line that is passed over
-pub passed_plays : (line : Line) (old new : SessionState) → top_work old.frames ≡ Passed → IsUnder old.frames line.level → new.frames ≡ old.frames → new.journal ≡ old.journal
+pub passed_plays : (line : Line) (old new : SessionState) → top_work old.outers ≡ Passed → IsUnder old.outers line.level → new.outers ≡ old.outers → new.journal ≡ old.journal
     → length new.tickets ≡ number_after line.order (length old.tickets) → PlaysLine line old new
-passed_plays line old new passed under frames journal number = record {
+passed_plays line old new passed under outers journal number = record {
   leads = λ lines rest k. record {
     leads = λ without h.
-        (λ j. resume without (frames j) rest (journal j))
-        ∙ by without old.frames passed under rest ∙ k.leads without (subst (HasMarks without) journal h);
+        (λ j. resume without (outers j) rest (journal j))
+        ∙ by without old.outers passed under rest ∙ k.leads without (subst (HasMarks without) journal h);
   };
   number = number;
 }
   where
-    by : (without : List ℕ) (fs : List Frame) → top_work fs ≡ Passed → IsUnder fs line.level → (rest : Nested)
+    by : (without : List ℕ) (fs : List Outer) → top_work fs ≡ Passed → IsUnder fs line.level → (rest : Nested)
         → resume without fs rest old.journal ≡ resume without fs (over (length old.tickets) line rest) old.journal
     by without [] p u rest = cc
-    by without (frame ∷ fs) p u rest =
-        ap (λ w. resume without fs (others frame.level rest) (ending without w (parts_of without (deeper frame.level rest)) old.journal)) p
-        ∙ ap (λ r. resume without fs r old.journal) (sym (others_others frame.level line.level u rest))
-        ∙ sym (resume_under without frame fs (length old.tickets) line (deeper line.level rest) (others line.level rest) old.journal u
-        ∙ ap (λ w. resume without fs (others frame.level (others line.level rest)) (ending without w (parts_of without (Then (length old.tickets) line (deeper line.level rest) (deeper frame.level (others line.level rest)))) old.journal)) p)
+    by without (outer ∷ fs) p u rest =
+        ap (λ w. resume without fs (others outer.level rest) (ending without w (parts_of without (deeper outer.level rest)) old.journal)) p
+        ∙ ap (λ r. resume without fs r old.journal) (sym (others_others outer.level line.level u rest))
+        ∙ sym (resume_under without outer fs (length old.tickets) line (deeper line.level rest) (others line.level rest) old.journal u
+        ∙ ap (λ w. resume without fs (others outer.level (others line.level rest)) (ending without w (parts_of without (Then (length old.tickets) line (deeper line.level rest) (deeper outer.level (others line.level rest)))) old.journal)) p)
 
 not_deeper : (at level : ℕ) → nat_le level at ≡ true → nat_lt at level ≡ false
 not_deeper at level h = grind (arith, nat_tests)
@@ -98,14 +98,14 @@ comes_at number line rest = record { none = λ at h. ap (λ b. if b then Then nu
 pub after_ends : (line : Line) (old now new : SessionState) → EndsTo line.level old now → PlaysLine line now new → PlaysLine line old new
 after_ends line old now new ends plays = record {
   leads = λ lines rest k. plays.leads lines rest
-      (subst (λ n. LeadsTo lines now.frames (over n line rest) now.journal) (sym (ap length ends.tickets)) (ends.leads lines (over (length old.tickets) line rest) (comes_at (length old.tickets) line rest) k));
+      (subst (λ n. LeadsTo lines now.outers (over n line rest) now.journal) (sym (ap length ends.tickets)) (ends.leads lines (over (length old.tickets) line rest) (comes_at (length old.tickets) line rest) k));
   number = plays.number ∙ ap (λ ts. number_after line.order (length ts)) ends.tickets;
 }
 
-pub after_reach : (line : Line) (old now new : SessionState) → IsUnder old.frames line.level → Reaches line.check old now → PlaysLine line now new → PlaysLine line old new
+pub after_reach : (line : Line) (old now new : SessionState) → IsUnder old.outers line.level → Reaches line.check old now → PlaysLine line now new → PlaysLine line old new
 after_reach line old now new under reaches plays = record {
   leads = λ lines rest k. plays.leads lines rest
-      (subst (λ n. LeadsTo lines now.frames (over n line rest) now.journal) (sym (ap length reaches.tickets))
+      (subst (λ n. LeadsTo lines now.outers (over n line rest) now.journal) (sym (ap length reaches.tickets))
       ((reaches.waits line.level under).leads lines (length old.tickets) line (deeper line.level rest) (others line.level rest) refl refl k));
   number = plays.number ∙ ap (λ ts. number_after line.order (length ts)) reaches.tickets;
 }
@@ -113,17 +113,17 @@ after_reach line old now new under reaches plays = record {
 pub ends_keep : (line : Line) (old new : SessionState) → EndsTo line.level old new → KeepsNext line old new
 ends_keep line old new ends = record { leads = λ lines rest k. ends.leads lines (over (length old.tickets) line rest) (comes_at (length old.tickets) line rest) k }
 
-pub reach_keep : (line : Line) (old new : SessionState) → IsUnder old.frames line.level → Reaches line.check old new → KeepsNext line old new
+pub reach_keep : (line : Line) (old new : SessionState) → IsUnder old.outers line.level → Reaches line.check old new → KeepsNext line old new
 reach_keep line old new under reaches = record {
   leads = λ lines rest k. (reaches.waits line.level under).leads lines (length old.tickets) line (deeper line.level rest) (others line.level rest) refl refl k;
 }
 
 pub keeps_same : (line : Line) (old new : SessionState) → new ≡ old → KeepsNext line old new
-keeps_same line old new e = record { leads = λ lines rest k. subst (λ s. LeadsTo lines s.frames (over (length old.tickets) line rest) s.journal) (sym e) k }
+keeps_same line old new e = record { leads = λ lines rest k. subst (λ s. LeadsTo lines s.outers (over (length old.tickets) line rest) s.journal) (sym e) k }
 
 pub keeps_then : (line : Line) (old now new : SessionState) → now.tickets ≡ old.tickets → KeepsNext line old now → KeepsNext line now new → KeepsNext line old new
 keeps_then line old now new tickets a b = record {
   leads = λ lines rest k.
-      subst (λ n. LeadsTo lines new.frames (over n line rest) new.journal) (ap length tickets)
-      (b.leads lines rest (subst (λ n. LeadsTo lines now.frames (over n line rest) now.journal) (sym (ap length tickets)) (a.leads lines rest k)));
+      subst (λ n. LeadsTo lines new.outers (over n line rest) new.journal) (ap length tickets)
+      (b.leads lines rest (subst (λ n. LeadsTo lines now.outers (over n line rest) now.journal) (sym (ap length tickets)) (a.leads lines rest k)));
 }

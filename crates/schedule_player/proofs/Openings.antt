@@ -21,8 +21,8 @@ use Rattle.schedule_player.specs.Around.{with_work}
 use Rattle.schedule_player.specs.Steps.{IsPlaced, PlaysOrder}
 use Rattle.schedule_player.specs.SessionState.{SessionState}
 use Rattle.schedule_player.specs.InStep.{InStep, IsAhead, ChecksInStep}
-use Rattle.schedule_player.specs.declared.session.Found.{Found}
-use Rattle.schedule_player.specs.declared.frames.Work.TheVariants.{Ask}
+use Rattle.schedule_player.specs.declared.session.Pending.{Pending}
+use Rattle.schedule_player.specs.declared.outers.Work.TheVariants.{Ask}
 use Rattle.schedule_player.proofs.Same.{in_step_at, checks_at}
 use Rattle.schedule_player.proofs.Accepts.{opened, called_now, few, not_open_yet, asking, asking_state, asking_in_step, asking_checks, asking_plays, mutation_open, mutation_next, mutating, mutating_in_step, mutating_plays, mutation_right, after_is, checked_is, effect_is}
 
@@ -48,12 +48,12 @@ module _ (answer_of : Sources → Call → Answer) (problems_of : Sources → By
 
   -- ---- an ask
 
-  module _ (ask : is_mutation there ≡ false) (placed : IsPlaced session.frames) (f : Bool) (new : SessionState) (e : new ≡ record now { frames = with_work (Ask t f 0) now.frames }) where
+  module _ (ask : is_mutation there ≡ false) (placed : IsPlaced session.outers) (f : Bool) (new : SessionState) (e : new ≡ record now { outers = with_work (Ask t f 0) now.outers }) where
     is_ask_call : is_mutation call ≡ false
     is_ask_call = ap is_mutation (sym same_call) ∙ ask
 
     new_is : new ≡ asking answer_of problems_of session state step live call is_ask_call placed f
-    new_is = e ∙ (λ j. record (is j) { frames = with_work (Ask (at j) f 0) (is j).frames })
+    new_is = e ∙ (λ j. record (is j) { outers = with_work (Ask (at j) f 0) (is j).outers })
 
     pub ask_in_step : (after_feed : EngineState) → after_feed ≡ (if f then record state { asks = state.asks ++ (t, there) ∷ [] } else state) → InStep answer_of problems_of new after_feed
     ask_in_step after_feed g = in_step_at new_is (g ∙ (λ j. if f then record state { asks = state.asks ++ (at j, same_call j) ∷ [] } else state))
@@ -79,7 +79,7 @@ module _ (answer_of : Sources → Call → Answer) (problems_of : Sources → By
     next_there m = (λ j. is_next (is j).journal (at j)) ∙ mutation_next answer_of problems_of session state step live call is_mutation_call m
 
     -- out of memory
-    module _ (placed : IsPlaced session.frames) (value : Sources → Call → Answer) (new : SessionState)
+    module _ (placed : IsPlaced session.outers) (value : Sources → Call → Answer) (new : SessionState)
         (e : new ≡ record now { journal = now.journal ++ Settle t mark.NoMemory ∷ []; answers = slice_set now.answers t (reply value now.journal t mark.NoMemory) }) where
       right_there : reply value (opened answer_of problems_of session state step live call).journal (accepted session.journal) mark.NoMemory ≡ reply answer_of (opened answer_of problems_of session state step live call).journal (accepted session.journal) mark.NoMemory
       right_there = mutation_right answer_of problems_of session state step live call is_mutation_call mark.NoMemory value
@@ -104,7 +104,7 @@ module _ (answer_of : Sources → Call → Answer) (problems_of : Sources → By
           same_checked : checked ((session.journal ++ Accept (accepted session.journal) 0 (length session.tickets) call ∷ []) ++ Settle (accepted session.journal) mark.NoMemory ∷ []) ≡ checked session.journal
           same_checked = checked_is answer_of problems_of session state step live call is_mutation_call mark.NoMemory
 
-          ahead : (found : Option Found) (names : List Bytes) → IsAhead problems_of session.journal found names
+          ahead : (found : Option Pending) (names : List Bytes) → IsAhead problems_of session.journal found names
               → IsAhead problems_of ((session.journal ++ Accept (accepted session.journal) 0 (length session.tickets) call ∷ []) ++ Settle (accepted session.journal) mark.NoMemory ∷ []) found names
           ahead None names h = h ∙ sym same_checked
           ahead (Some f) names h = (
@@ -115,7 +115,7 @@ module _ (answer_of : Sources → Call → Answer) (problems_of : Sources → By
           )
 
     -- in force
-    module _ (placed : IsPlaced session.frames) (value : Sources → Call → Answer) (after_feed settled : EngineState) (effect : Effect) (new : SessionState)
+    module _ (placed : IsPlaced session.outers) (value : Sources → Call → Answer) (after_feed settled : EngineState) (effect : Effect) (new : SessionState)
         (e : new ≡ record now { journal = now.journal ++ Settle t mark.Done ∷ []; answers = slice_set now.answers t (reply value now.journal t mark.Done); found = None })
         (staged : after_feed ≡ record state { staged = Some (t, there) }) (applies : effect ≡ effect_of (taking_effect now.journal t mark.Done)) (g : settled ≡ settled_state after_feed t effect) where
       right_made : reply value (opened answer_of problems_of session state step live call).journal (accepted session.journal) mark.Done ≡ reply answer_of (opened answer_of problems_of session state step live call).journal (accepted session.journal) mark.Done

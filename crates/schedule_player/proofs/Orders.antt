@@ -25,10 +25,10 @@ use Rattle.schedule_player.specs.Around.{HasMarks, ending, asks_of, ask_onto, fe
 use Rattle.schedule_player.specs.Steps.{IsPlaced, PlaysOrder, IsAccepted, idle_work}
 use Rattle.schedule_player.specs.SessionState.{SessionState}
 use Rattle.schedule_player.specs.InStep.{IsAsked, IsNoted, IsServed, InStep, IsAhead, ChecksInStep}
-use Rattle.schedule_player.specs.declared.session.Found.{Found}
-use Rattle.schedule_player.specs.declared.frames.Work.{Work}
-use Rattle.schedule_player.specs.declared.frames.Work.TheVariants.{Ask, Checks, Check, Beside, Passed}
-use Rattle.schedule_player.specs.declared.frames.Frame.{Frame}
+use Rattle.schedule_player.specs.declared.session.Pending.{Pending}
+use Rattle.schedule_player.specs.declared.outers.Work.{Work}
+use Rattle.schedule_player.specs.declared.outers.Work.TheVariants.{Ask, Checks, Check, Beside, Passed}
+use Rattle.schedule_player.specs.declared.outers.Outer.{Outer}
 use Rattle.schedule_player.proofs.Same.{in_step_at, checks_at}
 use Rattle.schedule_player.proofs.Served.{asked_stays}
 use Rattle.schedule_player.proofs.Pushing.{after-push, checked-push, findings-push}
@@ -74,7 +74,7 @@ module _ (answer_of : Sources → Call → Answer) (problems_of : Sources → By
   accepted_by k t h = let called = called_by session.journal 0 k t h in record { within = accepted_below session.journal step.holds.legal t called; called = called }
 
   -- an event that nobody but the journal sees
-  module _ (event : Event) (new : Holds (asks_of session.frames) (session.journal ++ event ∷ [])) (noted : IsNoted answer_of problems_of (record session { journal = session.journal ++ event ∷ [] }))
+  module _ (event : Event) (new : Holds (asks_of session.outers) (session.journal ++ event ∷ [])) (noted : IsNoted answer_of problems_of (record session { journal = session.journal ++ event ∷ [] }))
       (closed : is_closed (session.journal ++ event ∷ []) ≡ is_closed session.journal) (same_after : after (session.journal ++ event ∷ []) ≡ after session.journal) (same_checked : checked (session.journal ++ event ∷ []) ≡ checked session.journal) where
     pub aside_in_step : InStep answer_of problems_of (record session { journal = session.journal ++ event ∷ [] }) state
     aside_in_step = record {
@@ -85,7 +85,7 @@ module _ (answer_of : Sources → Call → Answer) (problems_of : Sources → By
       served = let s = step.served in record { fed = s.fed; asked = asked_stays session.journal event state.asks s.asked; staged = s.staged; sources = s.sources ∙ sym same_after };
     }
 
-    aside_ahead : (found : Option Found) (names : List Bytes) → IsAhead problems_of session.journal found names → IsAhead problems_of (session.journal ++ event ∷ []) found names
+    aside_ahead : (found : Option Pending) (names : List Bytes) → IsAhead problems_of session.journal found names → IsAhead problems_of (session.journal ++ event ∷ []) found names
     aside_ahead None names h = h ∙ sym same_checked
     aside_ahead (Some f) names h = (
       h.0 ∙ ap (λ ns. ns ++ f.file ∷ []) (sym same_checked),
@@ -97,14 +97,14 @@ module _ (answer_of : Sources → Call → Answer) (problems_of : Sources → By
     pub aside_checks : ChecksInStep problems_of session state → ChecksInStep problems_of (record session { journal = session.journal ++ event ∷ [] }) state
     aside_checks checks = record { skipped = checks.skipped; ahead = aside_ahead session.found state.checked checks.ahead }
 
-  cancels_by : (ticket : Option ℕ) → Holds (asks_of session.frames) (cancel_ticket ticket session.journal)
-  cancels_by ticket = keeps-cancel ticket (asks_of session.frames) session.journal step.holds
+  cancels_by : (ticket : Option ℕ) → Holds (asks_of session.outers) (cancel_ticket ticket session.journal)
+  cancels_by ticket = keeps-cancel ticket (asks_of session.outers) session.journal step.holds
 
   pub cancel_in_step : (ticket : Option ℕ) → InStep answer_of problems_of (record session { journal = cancel_ticket ticket session.journal }) state
   cancel_in_step None = step
   cancel_in_step (Some ticket) = by (is_open session.journal ticket && not (is_cancelled session.journal ticket)) (cancels_by (Some ticket))
     where
-      by : (b : Bool) → Holds (asks_of session.frames) (if b then session.journal ++ Cancel ticket ∷ [] else session.journal)
+      by : (b : Bool) → Holds (asks_of session.outers) (if b then session.journal ++ Cancel ticket ∷ [] else session.journal)
           → InStep answer_of problems_of (record session { journal = if b then session.journal ++ Cancel ticket ∷ [] else session.journal }) state
       by true holds = aside_in_step (Cancel ticket) holds (noted_cancel answer_of problems_of session step.noted ticket)
           (list_any-push is_close session.journal (Cancel ticket) ∙ or-false (is_closed session.journal)) (after-push session.journal (Cancel ticket)) (checked-push session.journal (Cancel ticket))
@@ -114,7 +114,7 @@ module _ (answer_of : Sources → Call → Answer) (problems_of : Sources → By
   cancel_checks None checks = checks
   cancel_checks (Some ticket) checks = by (is_open session.journal ticket && not (is_cancelled session.journal ticket)) (cancels_by (Some ticket))
     where
-      by : (b : Bool) → Holds (asks_of session.frames) (if b then session.journal ++ Cancel ticket ∷ [] else session.journal)
+      by : (b : Bool) → Holds (asks_of session.outers) (if b then session.journal ++ Cancel ticket ∷ [] else session.journal)
           → ChecksInStep problems_of (record session { journal = if b then session.journal ++ Cancel ticket ∷ [] else session.journal }) state
       by true holds = aside_checks (Cancel ticket) holds (noted_cancel answer_of problems_of session step.noted ticket)
           (list_any-push is_close session.journal (Cancel ticket) ∙ or-false (is_closed session.journal)) (after-push session.journal (Cancel ticket)) (checked-push session.journal (Cancel ticket)) checks
@@ -137,21 +137,21 @@ cancel_marks without (Some ticket) journal h = by (is_open journal ticket && not
     by false k = k
 
 -- the line stays as it was placed
-pub placed_passed : (frames : List Frame) → IsPlaced frames → frames ≡ with_work Passed frames
-placed_passed frames placed =
+pub placed_passed : (outers : List Outer) → IsPlaced outers → outers ≡ with_work Passed outers
+placed_passed outers placed =
     placed.is ∙ (λ j. record { level = placed.level; under_ask = sym (or-false (top_under_ask placed.around)) j; work = Passed } ∷ placed.around) ∙ sym (ap (with_work Passed) placed.is)
 
-pub cancel_plays : (tag : ℕ) (old new : SessionState) (ticket : Option ℕ) → ticket ≡ ticket_of old.journal 0 tag → new ≡ record old { journal = cancel_ticket ticket old.journal } → IsPlaced old.frames → PlaysOrder (order.Cancel tag) old new
+pub cancel_plays : (tag : ℕ) (old new : SessionState) (ticket : Option ℕ) → ticket ≡ ticket_of old.journal 0 tag → new ≡ record old { journal = cancel_ticket ticket old.journal } → IsPlaced old.outers → PlaysOrder (order.Cancel tag) old new
 cancel_plays tag old new ticket is e placed = record {
   work = Passed;
-  frames = ap {A = SessionState} (λ s. s.frames) e ∙ placed_passed old.frames placed;
+  outers = ap {A = SessionState} (λ s. s.outers) e ∙ placed_passed old.outers placed;
   number = ap {A = SessionState} (λ s. length s.tickets) e;
   marks = λ without h. cancel_marks without ticket old.journal (subst (λ s. HasMarks without s.journal) e h);
   plays = λ without parts h. ap (λ t. cancel_ticket t old.journal) (sym is) ∙ ap {A = SessionState} (λ s. s.journal) (sym e);
 }
 
-pub wait_plays : (tag : ℕ) (old : SessionState) → IsPlaced old.frames → PlaysOrder (order.Wait tag) old old
-wait_plays tag old placed = record { work = Passed; frames = placed_passed old.frames placed; number = refl; marks = λ without h. h; plays = λ without parts h. refl }
+pub wait_plays : (tag : ℕ) (old : SessionState) → IsPlaced old.outers → PlaysOrder (order.Wait tag) old old
+wait_plays tag old placed = record { work = Passed; outers = placed_passed old.outers placed; number = refl; marks = λ without h. h; plays = λ without parts h. refl }
 
 -- ---- idles
 
@@ -168,11 +168,11 @@ none_by (Check number turns) asks h = refl
 none_by Beside asks h = refl
 none_by Passed asks h = refl
 
-no_asks : (frames : List Frame) → AreStacked frames → top_under_ask frames ≡ false → asks_of frames ≡ []
+no_asks : (outers : List Outer) → AreStacked outers → top_under_ask outers ≡ false → asks_of outers ≡ []
 no_asks [] stacked h = refl
-no_asks (frame ∷ frames) stacked h =
-    let parts = or_parts (top_under_ask frames) (is_ask frame.work) (sym stacked.1 ∙ h) in
-    none_by frame.work (asks_of frames) parts.1 ∙ no_asks frames stacked.2 parts.0
+no_asks (outer ∷ outers) stacked h =
+    let parts = or_parts (top_under_ask outers) (is_ask outer.work) (sym stacked.1 ∙ h) in
+    none_by outer.work (asks_of outers) parts.1 ∙ no_asks outers stacked.2 parts.0
 
 some_by : (w : Work) (asks : List ℕ) → is_ask w ≡ true → (t : ℕ) × (is_among (ask_onto w asks) t ≡ true)
 some_by (Ask ticket is_fed turns) asks h = (ticket, ap (λ b. b || is_among asks ticket) (eq-eqb ticket ticket refl))
@@ -188,13 +188,13 @@ more_by (Check number turns) asks t h = h
 more_by Beside asks t h = h
 more_by Passed asks t h = h
 
-some_asks : (frames : List Frame) → AreStacked frames → top_under_ask frames ≡ true → (t : ℕ) × (is_among (asks_of frames) t ≡ true)
+some_asks : (outers : List Outer) → AreStacked outers → top_under_ask outers ≡ true → (t : ℕ) × (is_among (asks_of outers) t ≡ true)
 some_asks [] stacked h = absurd (true≢false (sym h))
-some_asks (frame ∷ frames) stacked h = by (top_under_ask frames) refl (some_asks frames stacked.2)
+some_asks (outer ∷ outers) stacked h = by (top_under_ask outers) refl (some_asks outers stacked.2)
   where
-    by : (b : Bool) → top_under_ask frames ≡ b → (top_under_ask frames ≡ true → (t : ℕ) × (is_among (asks_of frames) t ≡ true)) → (t : ℕ) × (is_among (ask_onto frame.work (asks_of frames)) t ≡ true)
-    by true e next = let found = next e in (found.0, more_by frame.work (asks_of frames) found.0 found.1)
-    by false e next = some_by frame.work (asks_of frames) (ap (λ b. b || is_ask frame.work) (sym e) ∙ sym stacked.1 ∙ h)
+    by : (b : Bool) → top_under_ask outers ≡ b → (top_under_ask outers ≡ true → (t : ℕ) × (is_among (asks_of outers) t ≡ true)) → (t : ℕ) × (is_among (ask_onto outer.work (asks_of outers)) t ≡ true)
+    by true e next = let found = next e in (found.0, more_by outer.work (asks_of outers) found.0 found.1)
+    by false e next = some_by outer.work (asks_of outers) (ap (λ b. b || is_ask outer.work) (sym e) ∙ sym stacked.1 ∙ h)
 
 unsettled_some : (events : List Event) (settled : ℕ → Bool) (t : ℕ) → is_some (call_of events t) ≡ true → settled t ≡ false → list_all settled (tickets events) ≡ false
 unsettled_some [] settled t h u = absurd (true≢false (sym h))
@@ -213,16 +213,16 @@ unsettled_some (Settle ticket m ∷ events) settled t h u = unsettled_some event
 unsettled_some (Checked file ∷ events) settled t h u = unsettled_some events settled t h u
 
 module _ (answer_of : Sources → Call → Answer) (problems_of : Sources → Bytes → List Problem) (session : SessionState) (state : EngineState)
-    (step : InStep answer_of problems_of session state) (placed : IsPlaced session.frames) where
+    (step : InStep answer_of problems_of session state) (placed : IsPlaced session.outers) where
   -- no check begins where the session is shut down or an ask is open
-  no_begin : (session.closed || top_under_ask session.frames) ≡ true → check_begins session.journal ≡ false
+  no_begin : (session.closed || top_under_ask session.outers) ≡ true → check_begins session.journal ≡ false
   no_begin h = by (is_closed session.journal) refl
     where
       by : (b : Bool) → is_closed session.journal ≡ b → check_begins session.journal ≡ false
       by true e = ap (λ b. (not b && all_settled session.journal) && some_of (due session.journal)) e
       by false e =
-          let under : top_under_ask session.frames ≡ true = sym (ap (λ b. b || top_under_ask session.frames) (step.closed ∙ e)) ∙ h in
-          let found = some_asks session.frames step.stacked under in
+          let under : top_under_ask session.outers ≡ true = sym (ap (λ b. b || top_under_ask session.outers) (step.closed ∙ e)) ∙ h in
+          let found = some_asks session.outers step.stacked under in
           let open_ : is_open session.journal found.0 ≡ true = step.holds.opens found.0 ∙ (λ j. not (e j) && found.1 j) in
           let parts = and_parts (is_some (call_of session.journal found.0)) (not (is_settled session.journal found.0)) open_ in
           let unsettled : all_settled session.journal ≡ false = unsettled_some session.journal (is_settled session.journal) found.0 parts.0 (not_true (is_settled session.journal found.0) parts.1) in
@@ -233,29 +233,29 @@ module _ (answer_of : Sources → Call → Answer) (problems_of : Sources → By
           not_true true k = sym k
           not_true false k = refl
 
-  top_passed : top_work session.frames ≡ Passed
+  top_passed : top_work session.outers ≡ Passed
   top_passed = ap top_work placed.is
 
-  idle_replaces : (b : Bool) → (session.closed || top_under_ask session.frames) ≡ b → Replaces (top_work session.frames) (if b then Beside else Checks 0) (asks_of (around session.frames))
-  idle_replaces true e = subst (λ w. Replaces w Beside (asks_of (around session.frames))) (sym top_passed) (record { onto = refl; fed = λ ts. refl; stands = tt; is = refl })
+  idle_replaces : (b : Bool) → (session.closed || top_under_ask session.outers) ≡ b → Replaces (top_work session.outers) (if b then Beside else Checks 0) (asks_of (around session.outers))
+  idle_replaces true e = subst (λ w. Replaces w Beside (asks_of (around session.outers))) (sym top_passed) (record { onto = refl; fed = λ ts. refl; stands = tt; is = refl })
   idle_replaces false e =
-      let none : asks_of session.frames ≡ [] = no_asks session.frames step.stacked (or_parts session.closed (top_under_ask session.frames) e).1 in
-      let below : asks_of (around session.frames) ≡ [] = ap (λ fs. asks_of (around fs)) placed.is ∙ sym (ap asks_of placed.is) ∙ none in
-      subst (λ w. Replaces w (Checks 0) (asks_of (around session.frames))) (sym top_passed) (record { onto = refl; fed = λ ts. refl; stands = below; is = refl })
+      let none : asks_of session.outers ≡ [] = no_asks session.outers step.stacked (or_parts session.closed (top_under_ask session.outers) e).1 in
+      let below : asks_of (around session.outers) ≡ [] = ap (λ fs. asks_of (around fs)) placed.is ∙ sym (ap asks_of placed.is) ∙ none in
+      subst (λ w. Replaces w (Checks 0) (asks_of (around session.outers))) (sym top_passed) (record { onto = refl; fed = λ ts. refl; stands = below; is = refl })
 
-  pub idle_in_step : InStep answer_of problems_of (record session { frames = with_work (idle_work session) session.frames }) state
-  idle_in_step = rework_in_step answer_of problems_of session state (idle_work session) step (idle_replaces (session.closed || top_under_ask session.frames) refl)
+  pub idle_in_step : InStep answer_of problems_of (record session { outers = with_work (idle_work session) session.outers }) state
+  idle_in_step = rework_in_step answer_of problems_of session state (idle_work session) step (idle_replaces (session.closed || top_under_ask session.outers) refl)
 
-  pub idle_plays : PlaysOrder order.Idle session (record session { frames = with_work (idle_work session) session.frames })
+  pub idle_plays : PlaysOrder order.Idle session (record session { outers = with_work (idle_work session) session.outers })
   idle_plays = record {
     work = idle_work session;
-    frames = refl;
+    outers = refl;
     number = refl;
     marks = λ without h. h;
-    plays = λ without parts h. by without parts (session.closed || top_under_ask session.frames) refl;
+    plays = λ without parts h. by without parts (session.closed || top_under_ask session.outers) refl;
   }
     where
-      by : (without : List ℕ) (parts : List Part) (b : Bool) → (session.closed || top_under_ask session.frames) ≡ b
+      by : (without : List ℕ) (parts : List Part) (b : Bool) → (session.closed || top_under_ask session.outers) ≡ b
           → play_checks 0 parts session.journal ≡ ending without (if b then Beside else Checks 0) parts session.journal
       by without parts true e = idle_over parts session.journal (no_begin e)
       by without parts false e = refl

@@ -61,7 +61,7 @@ module _ (answer_of : Sources → Call → Answer) (problems_of : Sources → By
       subst (λ s. ChecksInStep problems_of s state) (sym e) (subst (ChecksInStep problems_of fresh_session) (sym f) (record { skipped = refl; ahead = refl }))
 
   pub owes_played : (played : Played) (before now : SessionState) (started state : EngineState) → InStep answer_of problems_of before started → IsUnderway lines before → (played.whole ≡ true → IsPlayed lines before)
-      → InStep answer_of problems_of now state → now.frames ≡ [] → OnlySettles before.journal now.journal → (before.frames ≡ [] → now ≡ before)
+      → InStep answer_of problems_of now state → now.outers ≡ [] → OnlySettles before.journal now.journal → (before.outers ≡ [] → now ≡ before)
       → played.journal.events ≡ now.journal → played.answers ≡ now.answers → played.problems ≡ now.problems → PlayOwes answer_of problems_of lines played state
   owes_played played before now started state first underway whole last none settles same events answers problems = record {
     whole = λ h.
@@ -72,7 +72,7 @@ module _ (answer_of : Sources → Call → Answer) (problems_of : Sources → By
         subst (λ js. js ≡ journal_of (out_of_memory js) lines) (sym (events ∙ nothing)) all;
     cut = λ h.
         let without : List ℕ = out_of_memory before.journal in
-        let more = grows-resume without before.frames underway.rest before.journal in
+        let more = grows-resume without before.outers underway.rest before.journal in
         record {
           without = without;
           front = before.journal;
@@ -89,7 +89,7 @@ module _ (answer_of : Sources → Call → Answer) (problems_of : Sources → By
     found = problems ∙ last.noted.problems ∙ sym (ap (λ js. map (λ finding. finding.1) (findings problems_of js)) events);
     engine = record {
       sources = last.served.sources ∙ sym (ap after events);
-      asks = no_map (λ ask. ask.0) state.asks (last.served.fed ∙ if_none now.closed (fed_of now.frames) (ap fed_of none));
+      asks = no_map (λ ask. ask.0) state.asks (last.served.fed ∙ if_none now.closed (fed_of now.outers) (ap fed_of none));
       staged = last.served.staged;
     };
   }

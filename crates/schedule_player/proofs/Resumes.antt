@@ -15,9 +15,9 @@ use Rattle.ask_history.proofs.Plainly.{all_of-before}
 use Rattle.schedule_player.specs.Around.{HasMarks, LeadsTo, ComesAt, resume, ending, in_check, top_work, around, first_of}
 use Rattle.schedule_player.specs.SessionState.{SessionState}
 use Rattle.schedule_player.specs.Steps.{Ends, KeepsLine, EndsTop, KeepsTop, EndsTo}
-use Rattle.schedule_player.specs.declared.frames.Work.{Work}
-use Rattle.schedule_player.specs.declared.frames.Work.TheVariants.{Ask, Checks, Check, Beside, Passed}
-use Rattle.schedule_player.specs.declared.frames.Frame.{Frame}
+use Rattle.schedule_player.specs.declared.outers.Work.{Work}
+use Rattle.schedule_player.specs.declared.outers.Work.TheVariants.{Ask, Checks, Check, Beside, Passed}
+use Rattle.schedule_player.specs.declared.outers.Outer.{Outer}
 
 -- ---- lines that end
 
@@ -31,12 +31,12 @@ others_none level (Then number line inner rest) h = by (nat_lt level line.level)
     by false k = refl
 
 -- the innermost line has ended
-pub leads_around : (lines : List Line) (frame : Frame) (frames : List Frame) (rest : Nested) (old new : List Event) → deeper frame.level rest ≡ End → Ends frame.work old new
-    → LeadsTo lines (frame ∷ frames) rest old → LeadsTo lines frames rest new
-leads_around lines frame frames rest old new none ends leads = record {
+pub leads_around : (lines : List Line) (outer : Outer) (outers : List Outer) (rest : Nested) (old new : List Event) → deeper outer.level rest ≡ End → Ends outer.work old new
+    → LeadsTo lines (outer ∷ outers) rest old → LeadsTo lines outers rest new
+leads_around lines outer outers rest old new none ends leads = record {
   leads = λ without marks.
-      sym ((λ j. resume without frames (others_none frame.level rest none j) (ending without frame.work (parts_of without (none j)) old))
-      ∙ ap (resume without frames rest) (ends.ends without marks))
+      sym ((λ j. resume without outers (others_none outer.level rest none j) (ending without outer.work (parts_of without (none j)) old))
+      ∙ ap (resume without outers rest) (ends.ends without marks))
       ∙ leads.leads without (ends.marks without marks);
 }
 
@@ -71,40 +71,40 @@ ends_start level session = record { leads = λ lines rest at k. k; tickets = ref
 pub ends_then : {level : ℕ} {old now new : SessionState} → EndsTo level old now → EndsTo level now new → EndsTo level old new
 ends_then a b = record { leads = λ lines rest at k. b.leads lines rest at (a.leads lines rest at k); tickets = b.tickets ∙ a.tickets }
 
-first_is : (frames : List Frame) (frame : Frame) → first_of frames ≡ Some frame → frames ≡ frame ∷ around frames
-first_is [] frame h = cc
-first_is (f ∷ frames) frame h = let same : f ≡ frame = cc in λ j. same j ∷ frames
+first_is : (outers : List Outer) (outer : Outer) → first_of outers ≡ Some outer → outers ≡ outer ∷ around outers
+first_is [] outer h = cc
+first_is (f ∷ outers) outer h = let same : f ≡ outer = cc in λ j. same j ∷ outers
 
-pub ends_one : (level : ℕ) (old new : SessionState) (frame : Frame) → first_of old.frames ≡ Some frame → nat_le level frame.level ≡ true → EndsTop old new → EndsTo level old new
-ends_one level old new frame first deep ends = record {
+pub ends_one : (level : ℕ) (old new : SessionState) (outer : Outer) → first_of old.outers ≡ Some outer → nat_le level outer.level ≡ true → EndsTop old new → EndsTo level old new
+ends_one level old new outer first deep ends = record {
   leads = λ lines rest at k.
-      let is = first_is old.frames frame first in
-      subst (λ ws. LeadsTo lines ws rest new.journal) (sym ends.frames)
-      (leads_around lines frame (around old.frames) rest old.journal new.journal (at.none frame.level deep)
+      let is = first_is old.outers outer first in
+      subst (λ ws. LeadsTo lines ws rest new.journal) (sym ends.outers)
+      (leads_around lines outer (around old.outers) rest old.journal new.journal (at.none outer.level deep)
       (subst (λ ws. Ends (top_work ws) old.journal new.journal) is ends.ends) (subst (λ ws. LeadsTo lines ws rest old.journal) is k));
   tickets = ends.tickets;
 }
 
-pub keeps_one : (level : ℕ) (old new : SessionState) (frame : Frame) → first_of old.frames ≡ Some frame → nat_le level frame.level ≡ true → KeepsTop old new → EndsTo level old new
-keeps_one level old new frame first deep keeps = record {
+pub keeps_one : (level : ℕ) (old new : SessionState) (outer : Outer) → first_of old.outers ≡ Some outer → nat_le level outer.level ≡ true → KeepsTop old new → EndsTo level old new
+keeps_one level old new outer first deep keeps = record {
   leads = λ lines rest at k. record {
     leads = λ without h.
-        let is = first_is old.frames frame first in
-        let none = at.none frame.level deep in
+        let is = first_is old.outers outer first in
+        let none = at.none outer.level deep in
         let line = subst (λ ws. KeepsLine (top_work ws) old.journal new.journal) is keeps.keeps in
-        ap (λ ws. resume without ws rest new.journal) (keeps.frames ∙ is)
-        ∙ (λ j. resume without (around old.frames) (others frame.level rest) (ending without frame.work (parts_of without (none j)) new.journal))
-        ∙ ap (resume without (around old.frames) (others frame.level rest)) (sym (line.same without h))
-        ∙ (λ j. resume without (around old.frames) (others frame.level rest) (ending without frame.work (parts_of without (sym none j)) old.journal))
+        ap (λ ws. resume without ws rest new.journal) (keeps.outers ∙ is)
+        ∙ (λ j. resume without (around old.outers) (others outer.level rest) (ending without outer.work (parts_of without (none j)) new.journal))
+        ∙ ap (resume without (around old.outers) (others outer.level rest)) (sym (line.same without h))
+        ∙ (λ j. resume without (around old.outers) (others outer.level rest) (ending without outer.work (parts_of without (sym none j)) old.journal))
         ∙ ap (λ ws. resume without ws rest old.journal) (sym is)
         ∙ k.leads without (line.marks without h);
   };
   tickets = keeps.tickets;
 }
 
-pub fewer_frames : (frames : List Frame) (frame : Frame) → first_of frames ≡ Some frame → length (around frames) < length frames
-fewer_frames [] frame h = cc
-fewer_frames (f ∷ frames) frame h = omega arith
+pub fewer_outers : (outers : List Outer) (outer : Outer) → first_of outers ≡ Some outer → length (around outers) < length outers
+fewer_outers [] outer h = cc
+fewer_outers (f ∷ outers) outer h = omega arith
 
 pub at_least : (m n : ℕ) → n ≤ m → nat_le n m ≡ true
 at_least m n h = grind (arith, nat_tests)

@@ -10,9 +10,9 @@ use Rattle.schedule_player.specs.Around.{asks_of, ask_onto, fed_of, fed_after, a
 use Rattle.schedule_player.specs.Steps.{IsSameLine}
 use Rattle.schedule_player.specs.SessionState.{SessionState}
 use Rattle.schedule_player.specs.InStep.{InStep, ChecksInStep}
-use Rattle.schedule_player.specs.declared.frames.Work.{Work}
-use Rattle.schedule_player.specs.declared.frames.Work.TheVariants.{Ask, Checks, Check, Beside, Passed}
-use Rattle.schedule_player.specs.declared.frames.Frame.{Frame}
+use Rattle.schedule_player.specs.declared.outers.Work.{Work}
+use Rattle.schedule_player.specs.declared.outers.Work.TheVariants.{Ask, Checks, Check, Beside, Passed}
+use Rattle.schedule_player.specs.declared.outers.Outer.{Outer}
 
 -- one line is as much an ask as another
 pub record Replaces (old new : Work) (asks : List ℕ) : Type 0 where
@@ -33,61 +33,61 @@ same_line Beside new asks same stands = subst (λ w. Replaces Beside w asks) (sy
 same_line Passed new asks same stands = subst (λ w. Replaces Passed w asks) (sym same)
     (record { onto = refl; fed = λ tickets. refl; stands = stands; is = refl })
 
-top_stands : (frames : List Frame) → AreStacked frames → StandsOn (top_work frames) (asks_of (around frames))
+top_stands : (outers : List Outer) → AreStacked outers → StandsOn (top_work outers) (asks_of (around outers))
 top_stands [] stacked = tt
-top_stands (frame ∷ frames) stacked = stacked.0
+top_stands (outer ∷ outers) stacked = stacked.0
 
 or_twice : (x a : Bool) → ((x || a) || a) ≡ (x || a)
 or_twice true a = refl
 or_twice false true = refl
 or_twice false false = refl
 
-module _ (frames : List Frame) (new : Work) (replaces : Replaces (top_work frames) new (asks_of (around frames))) where
-  pub rework_asks : asks_of (with_work new frames) ≡ asks_of frames
-  rework_asks = by frames replaces
+module _ (outers : List Outer) (new : Work) (replaces : Replaces (top_work outers) new (asks_of (around outers))) where
+  pub rework_asks : asks_of (with_work new outers) ≡ asks_of outers
+  rework_asks = by outers replaces
     where
-      by : (fs : List Frame) → Replaces (top_work fs) new (asks_of (around fs)) → asks_of (with_work new fs) ≡ asks_of fs
+      by : (fs : List Outer) → Replaces (top_work fs) new (asks_of (around fs)) → asks_of (with_work new fs) ≡ asks_of fs
       by [] r = refl
-      by (frame ∷ fs) r = r.onto
+      by (outer ∷ fs) r = r.onto
 
-  pub rework_fed : fed_of (with_work new frames) ≡ fed_of frames
-  rework_fed = by frames replaces
+  pub rework_fed : fed_of (with_work new outers) ≡ fed_of outers
+  rework_fed = by outers replaces
     where
-      by : (fs : List Frame) → Replaces (top_work fs) new (asks_of (around fs)) → fed_of (with_work new fs) ≡ fed_of fs
+      by : (fs : List Outer) → Replaces (top_work fs) new (asks_of (around fs)) → fed_of (with_work new fs) ≡ fed_of fs
       by [] r = refl
-      by (frame ∷ fs) r = r.fed (fed_of fs)
+      by (outer ∷ fs) r = r.fed (fed_of fs)
 
-  pub rework_stacked : AreStacked frames → AreStacked (with_work new frames)
-  rework_stacked = by frames replaces
+  pub rework_stacked : AreStacked outers → AreStacked (with_work new outers)
+  rework_stacked = by outers replaces
     where
-      by : (fs : List Frame) → Replaces (top_work fs) new (asks_of (around fs)) → AreStacked fs → AreStacked (with_work new fs)
+      by : (fs : List Outer) → Replaces (top_work fs) new (asks_of (around fs)) → AreStacked fs → AreStacked (with_work new fs)
       by [] r stacked = stacked
-      by (frame ∷ fs) r stacked = (
+      by (outer ∷ fs) r stacked = (
         r.stands,
-        (λ j. stacked.1 j || r.is j) ∙ or_twice (top_under_ask fs) (is_ask frame.work) ∙ ap (λ b. top_under_ask fs || b) (sym r.is),
+        (λ j. stacked.1 j || r.is j) ∙ or_twice (top_under_ask fs) (is_ask outer.work) ∙ ap (λ b. top_under_ask fs || b) (sym r.is),
         stacked.2,
       )
 
 module _ (answer_of : Sources → Call → Answer) (problems_of : Sources → Bytes → List Problem) (session : SessionState) (state : EngineState) (new : Work) where
   abbrev pub reworked : SessionState
-  reworked = record session { frames = with_work new session.frames }
+  reworked = record session { outers = with_work new session.outers }
 
-  pub rework_in_step : InStep answer_of problems_of session state → Replaces (top_work session.frames) new (asks_of (around session.frames)) → InStep answer_of problems_of reworked state
+  pub rework_in_step : InStep answer_of problems_of session state → Replaces (top_work session.outers) new (asks_of (around session.outers)) → InStep answer_of problems_of reworked state
   rework_in_step step replaces = record {
-    holds = subst (λ ts. Holds ts session.journal) (sym (rework_asks session.frames new replaces)) step.holds;
-    stacked = rework_stacked session.frames new replaces step.stacked;
+    holds = subst (λ ts. Holds ts session.journal) (sym (rework_asks session.outers new replaces)) step.holds;
+    stacked = rework_stacked session.outers new replaces step.stacked;
     closed = step.closed;
     noted = let n = step.noted in record { numbered = n.numbered; counted = n.counted; answers = n.answers; problems = n.problems };
     served = let s = step.served in record {
-      fed = s.fed ∙ ap (λ ts. if session.closed then [] else ts) (sym (rework_fed session.frames new replaces));
+      fed = s.fed ∙ ap (λ ts. if session.closed then [] else ts) (sym (rework_fed session.outers new replaces));
       asked = s.asked;
       staged = s.staged;
       sources = s.sources;
     };
   }
 
-  pub turned_in_step : InStep answer_of problems_of session state → IsSameLine (top_work session.frames) new → InStep answer_of problems_of reworked state
-  turned_in_step step same = rework_in_step step (same_line (top_work session.frames) new (asks_of (around session.frames)) same (top_stands session.frames step.stacked))
+  pub turned_in_step : InStep answer_of problems_of session state → IsSameLine (top_work session.outers) new → InStep answer_of problems_of reworked state
+  turned_in_step step same = rework_in_step step (same_line (top_work session.outers) new (asks_of (around session.outers)) same (top_stands session.outers step.stacked))
 
   pub rework_checks : ChecksInStep problems_of session state → ChecksInStep problems_of reworked state
   rework_checks checks = record { skipped = checks.skipped; ahead = checks.ahead }

@@ -39,17 +39,17 @@ pub record TopServed (session : SessionState) (state : EngineState) (ticket : �
   pub below : List (ℕ × Call)
   pub call : Call
   pub top : state.asks ≡ below ++ (ticket, call) ∷ []
-  pub fed : map (λ ask. ask.0) below ≡ fed_of (around session.frames)
+  pub fed : map (λ ask. ask.0) below ≡ fed_of (around session.outers)
   pub asked : All (IsAsked session.journal) below
   pub here : IsAsked session.journal (ticket, call)
 
 module _ (session : SessionState) (state : EngineState) (served : IsServed session state) (live : session.closed ≡ false) where
-  pub fed_live : map (λ ask. ask.0) state.asks ≡ fed_of session.frames
-  fed_live = served.fed ∙ ap (λ b. if b then [] else fed_of session.frames) live
+  pub fed_live : map (λ ask. ask.0) state.asks ≡ fed_of session.outers
+  fed_live = served.fed ∙ ap (λ b. if b then [] else fed_of session.outers) live
 
-  pub top_served : (ticket : ℕ) → top_ask session.frames ≡ Some (ticket, true) → TopServed session state ticket
+  pub top_served : (ticket : ℕ) → top_ask session.outers ≡ Some (ticket, true) → TopServed session state ticket
   top_served ticket top =
-      let found = map_last state.asks (fed_of (around session.frames)) ticket (fed_live ∙ fed_top session.frames ticket true top) in
+      let found = map_last state.asks (fed_of (around session.outers)) ticket (fed_live ∙ fed_top session.outers ticket true top) in
       let all = subst (All (IsAsked session.journal)) found.2 served.asked in
       record {
         below = found.0;
@@ -65,18 +65,18 @@ module _ (session : SessionState) (state : EngineState) (served : IsServed sessi
   is_open_last (ask ∷ below) ticket call = or_right (ask.0 == ticket) _ (is_open_last below ticket call)
 
   -- it may be settled
-  pub may_settle_top : (ticket : ℕ) → top_ask session.frames ≡ Some (ticket, true) → (is_staged state.staged ticket || is_open_in state.asks ticket) ≡ true
+  pub may_settle_top : (ticket : ℕ) → top_ask session.outers ≡ Some (ticket, true) → (is_staged state.staged ticket || is_open_in state.asks ticket) ≡ true
   may_settle_top ticket top =
       let there = top_served ticket top in
       or_right (is_staged state.staged ticket) _ (ap (λ asks. is_open_in asks ticket) there.top ∙ is_open_last there.below ticket there.call)
 
   -- and it is taken off
-  pub settled_top : (ticket : ℕ) → top_ask session.frames ≡ Some (ticket, true) → AreStacked session.frames
+  pub settled_top : (ticket : ℕ) → top_ask session.outers ≡ Some (ticket, true) → AreStacked session.outers
       → (there : TopServed session state ticket) × (settled_state state ticket Dropped ≡ record state { asks = there.below })
   settled_top ticket top stacked =
       let there = top_served ticket top in
       let none : list_any (λ u. u == ticket) (map (λ ask. ask.0) there.below) ≡ false =
-      ap (list_any (λ u. u == ticket)) there.fed ∙ fed_among (around session.frames) ticket (new_top session.frames ticket true top stacked) in
+      ap (list_any (λ u. u == ticket)) there.fed ∙ fed_among (around session.outers) ticket (new_top session.outers ticket true top stacked) in
       let left : filter (λ ask. not (ask.0 == ticket)) state.asks ≡ there.below =
       ap (filter (λ ask. not (ask.0 == ticket))) there.top
       ∙ filter-append (λ ask. not (ask.0 == ticket)) there.below ((ticket, there.call) ∷ [])

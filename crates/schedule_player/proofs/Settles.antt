@@ -27,7 +27,7 @@ use Rattle.schedule_player.specs.Around.{asks_of, fed_of, around, AreStacked}
 use Rattle.schedule_player.specs.Steps.{Finds, IsRight, top_ask}
 use Rattle.schedule_player.specs.SessionState.{SessionState}
 use Rattle.schedule_player.specs.InStep.{IsAsked, IsNoted, IsServed, InStep, IsAhead, ChecksInStep}
-use Rattle.schedule_player.specs.declared.session.Found.{Found}
+use Rattle.schedule_player.specs.declared.session.Pending.{Pending}
 use Rattle.schedule_player.proofs.Tops.{asks_top, fed_top, new_top, stacked_around}
 use Rattle.schedule_player.proofs.Served.{asked_stays, TopServed, fed_live, settled_top}
 use Rattle.schedule_player.proofs.Pushing.{after-push, checked-push, no_effect}
@@ -69,15 +69,15 @@ module _ (answer_of : Sources → Call → Answer) (journal : List Event) (ticke
 -- ---- an ask that is the innermost line
 
 module _ (answer_of : Sources → Call → Answer) (problems_of : Sources → Bytes → List Problem) (session : SessionState) (state : EngineState)
-    (step : InStep answer_of problems_of session state) (live : session.closed ≡ false) (ticket : ℕ) (fed : Bool) (top : top_ask session.frames ≡ Some (ticket, fed)) where
+    (step : InStep answer_of problems_of session state) (live : session.closed ≡ false) (ticket : ℕ) (fed : Bool) (top : top_ask session.outers ≡ Some (ticket, fed)) where
   open_now : is_closed session.journal ≡ false
   open_now = sym step.closed ∙ live
 
   pub top_open : is_open session.journal ticket ≡ true
   top_open =
       step.holds.opens ticket
-      ∙ ap (λ b. not b && is_among (asks_of session.frames) ticket) open_now
-      ∙ ap (λ ts. is_among ts ticket) (asks_top session.frames ticket fed top)
+      ∙ ap (λ b. not b && is_among (asks_of session.outers) ticket) open_now
+      ∙ ap (λ ts. is_among ts ticket) (asks_top session.outers ticket fed top)
       ∙ or_left (ticket == ticket) _ (eq-eqb ticket ticket refl)
 
   pub top_next : is_next session.journal ticket ≡ true
@@ -95,7 +95,7 @@ module _ (answer_of : Sources → Call → Answer) (problems_of : Sources → By
     settled_journal = session.journal ++ Settle ticket m ∷ []
 
     abbrev pub settled_session : SessionState
-    settled_session = record session { journal = session.journal ++ Settle ticket m ∷ []; answers = slice_set session.answers ticket value; frames = around session.frames }
+    settled_session = record session { journal = session.journal ++ Settle ticket m ∷ []; answers = slice_set session.answers ticket value; outers = around session.outers }
 
     no_change : taking_effect session.journal ticket m ≡ None
     no_change = no_effect session.journal ticket m top_open step.holds.prompt
@@ -115,17 +115,17 @@ module _ (answer_of : Sources → Call → Answer) (problems_of : Sources → By
     -- the engine, where it had the ask and where not
     settled_served : (f : Bool) → fed ≡ f → IsServed settled_session (if f then settled_state state ticket Dropped else state)
     settled_served true e =
-        let top' : top_ask session.frames ≡ Some (ticket, true) = top ∙ (λ j. Some (ticket, e j)) in
+        let top' : top_ask session.outers ≡ Some (ticket, true) = top ∙ (λ j. Some (ticket, e j)) in
         let taken = settled_top session state step.served live ticket top' step.stacked in
         subst (IsServed settled_session) (sym taken.1) (record {
-          fed = taken.0.fed ∙ sym (ap (λ b. if b then [] else fed_of (around session.frames)) live);
+          fed = taken.0.fed ∙ sym (ap (λ b. if b then [] else fed_of (around session.outers)) live);
           asked = asked_stays session.journal (Settle ticket m) taken.0.below taken.0.asked;
           staged = step.served.staged;
           sources = step.served.sources ∙ sym same_sources;
         })
     settled_served false e = record {
-      fed = fed_live session state step.served live ∙ fed_top session.frames ticket fed top ∙ ap (λ b. if b then fed_of (around session.frames) ++ ticket ∷ [] else fed_of (around session.frames)) e
-          ∙ sym (ap (λ b. if b then [] else fed_of (around session.frames)) live);
+      fed = fed_live session state step.served live ∙ fed_top session.outers ticket fed top ∙ ap (λ b. if b then fed_of (around session.outers) ++ ticket ∷ [] else fed_of (around session.outers)) e
+          ∙ sym (ap (λ b. if b then [] else fed_of (around session.outers)) live);
       asked = asked_stays session.journal (Settle ticket m) state.asks step.served.asked;
       staged = step.served.staged;
       sources = step.served.sources ∙ sym same_sources;
@@ -133,16 +133,16 @@ module _ (answer_of : Sources → Call → Answer) (problems_of : Sources → By
 
     pub settled_in_step : InStep answer_of problems_of settled_session (if fed then settled_state state ticket Dropped else state)
     settled_in_step = record {
-      holds = holds-settle (asks_of (around session.frames)) ticket session.journal (subst (λ ts. Holds ts session.journal) (asks_top session.frames ticket fed top) step.holds)
-          (new_top session.frames ticket fed top step.stacked) top_open m;
-      stacked = stacked_around session.frames step.stacked;
+      holds = holds-settle (asks_of (around session.outers)) ticket session.journal (subst (λ ts. Holds ts session.journal) (asks_top session.outers ticket fed top) step.holds)
+          (new_top session.outers ticket fed top step.stacked) top_open m;
+      stacked = stacked_around session.outers step.stacked;
       closed = step.closed ∙ sym settled_closed;
       noted = let n = noted_settle answer_of problems_of session step.noted ticket m value top_within right in
           record { numbered = n.numbered; counted = n.counted; answers = n.answers; problems = n.problems };
       served = settled_served fed refl;
     }
 
-    ahead_stays : (found : Option Found) (names : List Bytes) → IsAhead problems_of session.journal found names → IsAhead problems_of settled_journal found names
+    ahead_stays : (found : Option Pending) (names : List Bytes) → IsAhead problems_of session.journal found names → IsAhead problems_of settled_journal found names
     ahead_stays None names h = h ∙ sym same_checked
     ahead_stays (Some f) names h =
         (h.0 ∙ ap (λ ns. ns ++ f.file ∷ []) (sym same_checked), h.1 ∙ ap (λ files. problems_of files f.file) (sym same_sources), h.2, same_due ∙ h.3)

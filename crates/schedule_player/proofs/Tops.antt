@@ -5,9 +5,9 @@ use Rattle.std.proofs.lemmas.Bool.{or_parts, or_from, eq-eqb, or_left, or_right}
 use Rattle.std.proofs.lemmas.List.Folds.{list_any-append}
 use Rattle.schedule_player.specs.Around.{asks_of, ask_onto, fed_of, fed_after, around, top_work, top_under_ask, is_ask, with_work, StandsOn, AreStacked}
 use Rattle.schedule_player.specs.Steps.{ask_in, top_ask}
-use Rattle.schedule_player.specs.declared.frames.Work.{Work}
-use Rattle.schedule_player.specs.declared.frames.Work.TheVariants.{Ask, Checks, Check, Beside, Passed}
-use Rattle.schedule_player.specs.declared.frames.Frame.{Frame}
+use Rattle.schedule_player.specs.declared.outers.Work.{Work}
+use Rattle.schedule_player.specs.declared.outers.Work.TheVariants.{Ask, Checks, Check, Beside, Passed}
+use Rattle.schedule_player.specs.declared.outers.Outer.{Outer}
 
 some_pair : (p q : ℕ × Bool) → Some p ≡ Some q → p ≡ q
 some_pair p q h = cc
@@ -21,21 +21,21 @@ work_is (Check number turns) t f h = cc
 work_is Beside t f h = cc
 work_is Passed t f h = cc
 
-pub asks_top : (frames : List Frame) (t : ℕ) (f : Bool) → top_ask frames ≡ Some (t, f) → asks_of frames ≡ t ∷ asks_of (around frames)
+pub asks_top : (outers : List Outer) (t : ℕ) (f : Bool) → top_ask outers ≡ Some (t, f) → asks_of outers ≡ t ∷ asks_of (around outers)
 asks_top [] t f h = cc
-asks_top (frame ∷ frames) t f h = ap (λ w. ask_onto w (asks_of frames)) (work_is frame.work t f h).1
+asks_top (outer ∷ outers) t f h = ap (λ w. ask_onto w (asks_of outers)) (work_is outer.work t f h).1
 
-pub fed_top : (frames : List Frame) (t : ℕ) (f : Bool) → top_ask frames ≡ Some (t, f) → fed_of frames ≡ (if f then fed_of (around frames) ++ t ∷ [] else fed_of (around frames))
+pub fed_top : (outers : List Outer) (t : ℕ) (f : Bool) → top_ask outers ≡ Some (t, f) → fed_of outers ≡ (if f then fed_of (around outers) ++ t ∷ [] else fed_of (around outers))
 fed_top [] t f h = cc
-fed_top (frame ∷ frames) t f h = ap (λ w. fed_after w (fed_of frames)) (work_is frame.work t f h).1
+fed_top (outer ∷ outers) t f h = ap (λ w. fed_after w (fed_of outers)) (work_is outer.work t f h).1
 
-pub new_top : (frames : List Frame) (t : ℕ) (f : Bool) → top_ask frames ≡ Some (t, f) → AreStacked frames → list_any (λ u. u == t) (asks_of (around frames)) ≡ false
+pub new_top : (outers : List Outer) (t : ℕ) (f : Bool) → top_ask outers ≡ Some (t, f) → AreStacked outers → list_any (λ u. u == t) (asks_of (around outers)) ≡ false
 new_top [] t f h stacked = cc
-new_top (frame ∷ frames) t f h stacked = subst (λ w. StandsOn w (asks_of frames)) (work_is frame.work t f h).1 stacked.0
+new_top (outer ∷ outers) t f h stacked = subst (λ w. StandsOn w (asks_of outers)) (work_is outer.work t f h).1 stacked.0
 
-pub stacked_around : (frames : List Frame) → AreStacked frames → AreStacked (around frames)
+pub stacked_around : (outers : List Outer) → AreStacked outers → AreStacked (around outers)
 stacked_around [] stacked = stacked
-stacked_around (frame ∷ frames) stacked = stacked.2
+stacked_around (outer ∷ outers) stacked = stacked.2
 
 -- the engine has no ask that is not there
 fed_one : (w : Work) (fed asks : List ℕ) (t : ℕ) → (list_any (λ u. u == t) asks ≡ false → list_any (λ u. u == t) fed ≡ false)
@@ -49,9 +49,9 @@ fed_one (Check number turns) fed asks t next h = next h
 fed_one Beside fed asks t next h = next h
 fed_one Passed fed asks t next h = next h
 
-pub fed_among : (frames : List Frame) (t : ℕ) → list_any (λ u. u == t) (asks_of frames) ≡ false → list_any (λ u. u == t) (fed_of frames) ≡ false
+pub fed_among : (outers : List Outer) (t : ℕ) → list_any (λ u. u == t) (asks_of outers) ≡ false → list_any (λ u. u == t) (fed_of outers) ≡ false
 fed_among [] t h = refl
-fed_among (frame ∷ frames) t h = fed_one frame.work (fed_of frames) (asks_of frames) t (fed_among frames t) h
+fed_among (outer ∷ outers) t h = fed_one outer.work (fed_of outers) (asks_of outers) t (fed_among outers t) h
 
 fed_none_one : (w : Work) (fed asks : List ℕ) → (asks ≡ [] → fed ≡ []) → ask_onto w asks ≡ [] → fed_after w fed ≡ []
 fed_none_one (Ask ticket is_fed turns) fed asks next h = cc
@@ -60,9 +60,9 @@ fed_none_one (Check number turns) fed asks next h = next h
 fed_none_one Beside fed asks next h = next h
 fed_none_one Passed fed asks next h = next h
 
-pub fed_none : (frames : List Frame) → asks_of frames ≡ [] → fed_of frames ≡ []
+pub fed_none : (outers : List Outer) → asks_of outers ≡ [] → fed_of outers ≡ []
 fed_none [] h = refl
-fed_none (frame ∷ frames) h = fed_none_one frame.work (fed_of frames) (asks_of frames) (fed_none frames) h
+fed_none (outer ∷ outers) h = fed_none_one outer.work (fed_of outers) (asks_of outers) (fed_none outers) h
 
 -- ---- lists of pairs with a last one
 

@@ -10,9 +10,9 @@ use Rattle.ask_history.specs.declared.events.Mark.{Mark}
 use Rattle.ask_history.specs.declared.events.Event.{Event}
 use Rattle.ask_history.specs.declared.events.Event.TheVariants.{Settle}
 use Rattle.ask_history.specs.declared.script.Line.{Line}
-use Rattle.schedule_player.specs.declared.frames.Work.{Work}
-use Rattle.schedule_player.specs.declared.frames.Work.TheVariants.{Ask, Checks, Check, Beside, Passed}
-use Rattle.schedule_player.specs.declared.frames.Frame.{Frame}
+use Rattle.schedule_player.specs.declared.outers.Work.{Work}
+use Rattle.schedule_player.specs.declared.outers.Work.TheVariants.{Ask, Checks, Check, Beside, Passed}
+use Rattle.schedule_player.specs.declared.outers.Outer.{Outer}
 
 -- ---- lines that are left under one
 
@@ -32,10 +32,10 @@ ending without Beside parts journal = all_of parts journal
 ending without Passed parts journal = journal
 
 -- The lines that are left, some of them under lines that are played. The innermost of these is first.
-abbrev pub resume : List ℕ → List Frame → Nested → Play
+abbrev pub resume : List ℕ → List Outer → Nested → Play
 resume without [] rest journal = all_of (parts_of without rest) journal
-resume without (frame ∷ frames) rest journal =
-    resume without frames (others frame.level rest) (ending without frame.work (parts_of without (deeper frame.level rest)) journal)
+resume without (outer ∷ outers) rest journal =
+    resume without outers (others outer.level rest) (ending without outer.work (parts_of without (deeper outer.level rest)) journal)
 
 -- ---- marks
 
@@ -48,8 +48,8 @@ abbrev pub HasMarks : List ℕ → List Event → Type 0
 HasMarks without journal = All (HasMark without) journal
 
 -- Whatever is out of memory, if the journal so far is right in that: what is left makes it the journal of the schedule.
-pub record LeadsTo (lines : List Line) (frames : List Frame) (rest : Nested) (journal : List Event) : Type 0 where
-  pub leads : (without : List ℕ) → HasMarks without journal → resume without frames rest journal ≡ journal_of without lines
+pub record LeadsTo (lines : List Line) (outers : List Outer) (rest : Nested) (journal : List Event) : Type 0 where
+  pub leads : (without : List ℕ) → HasMarks without journal → resume without outers rest journal ≡ journal_of without lines
 
 -- No line of this level or a deeper one is next.
 pub record ComesAt (level : ℕ) (rest : Nested) : Type 0 where
@@ -62,30 +62,30 @@ ask_onto (Ask ticket is_fed turns) tickets = ticket ∷ tickets
 ask_onto _ tickets = tickets
 
 -- The asks around the next line, the innermost first.
-abbrev pub asks_of : List Frame → List ℕ
+abbrev pub asks_of : List Outer → List ℕ
 asks_of [] = []
-asks_of (frame ∷ frames) = ask_onto frame.work (asks_of frames)
+asks_of (outer ∷ outers) = ask_onto outer.work (asks_of outers)
 
 abbrev pub fed_after : Work → List ℕ → List ℕ
 fed_after (Ask ticket is_fed turns) tickets = if is_fed then tickets ++ ticket ∷ [] else tickets
 fed_after _ tickets = tickets
 
 -- Those that the engine has, the innermost last.
-abbrev pub fed_of : List Frame → List ℕ
+abbrev pub fed_of : List Outer → List ℕ
 fed_of [] = []
-fed_of (frame ∷ frames) = fed_after frame.work (fed_of frames)
+fed_of (outer ∷ outers) = fed_after outer.work (fed_of outers)
 
 abbrev pub is_ask : Work → Bool
 is_ask (Ask ticket is_fed turns) = true
 is_ask _ = false
 
-abbrev pub top_under_ask : List Frame → Bool
+abbrev pub top_under_ask : List Outer → Bool
 top_under_ask [] = false
-top_under_ask (frame ∷ frames) = frame.under_ask
+top_under_ask (outer ∷ outers) = outer.under_ask
 
-abbrev pub top_work : List Frame → Work
+abbrev pub top_work : List Outer → Work
 top_work [] = Beside
-top_work (frame ∷ frames) = frame.work
+top_work (outer ∷ outers) = outer.work
 
 -- An ask has a ticket of its own, and checks stand under no ask.
 abbrev pub StandsOn : Work → List ℕ → Type 0
@@ -94,27 +94,27 @@ StandsOn (Checks next) asks = asks ≡ []
 StandsOn (Check number turns) asks = asks ≡ []
 StandsOn _ asks = ⊤
 
-abbrev pub AreStacked : List Frame → Type 0
+abbrev pub AreStacked : List Outer → Type 0
 AreStacked [] = ⊤
-AreStacked (frame ∷ frames) =
-    StandsOn frame.work (asks_of frames) × (frame.under_ask ≡ (top_under_ask frames || is_ask frame.work)) × AreStacked frames
+AreStacked (outer ∷ outers) =
+    StandsOn outer.work (asks_of outers) × (outer.under_ask ≡ (top_under_ask outers || is_ask outer.work)) × AreStacked outers
 
 -- ---- the innermost line
 
-abbrev pub first_of : List Frame → Option Frame
+abbrev pub first_of : List Outer → Option Outer
 first_of [] = None
-first_of (frame ∷ frames) = Some frame
+first_of (outer ∷ outers) = Some outer
 
 -- the lines around the innermost one
-abbrev pub around : List Frame → List Frame
+abbrev pub around : List Outer → List Outer
 around [] = []
-around (frame ∷ frames) = frames
+around (outer ∷ outers) = outers
 
 -- a line around those to come, of which nothing was played
-abbrev pub onto : ℕ → List Frame → List Frame
-onto level frames = record { level = level; under_ask = top_under_ask frames; work = Passed } ∷ frames
+abbrev pub onto : ℕ → List Outer → List Outer
+onto level outers = record { level = level; under_ask = top_under_ask outers; work = Passed } ∷ outers
 
 -- something else becomes of the lines under the innermost one
-abbrev pub with_work : Work → List Frame → List Frame
+abbrev pub with_work : Work → List Outer → List Outer
 with_work work [] = []
-with_work work (frame ∷ frames) = record frame { under_ask = frame.under_ask || is_ask work; work = work } ∷ frames
+with_work work (outer ∷ outers) = record outer { under_ask = outer.under_ask || is_ask work; work = work } ∷ outers

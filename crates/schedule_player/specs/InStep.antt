@@ -12,7 +12,7 @@ use Rattle.ask_history.specs.declared.events.Event.{Event}
 use Rattle.ask_history.proofs.Underway.{Holds}
 use Rattle.schedule_player.specs.Around.{asks_of, fed_of, AreStacked}
 use Rattle.schedule_player.specs.SessionState.{SessionState}
-use Rattle.schedule_player.specs.declared.session.Found.{Found}
+use Rattle.schedule_player.specs.declared.session.Pending.{Pending}
 
 -- the answer of a ticket; where it is open, the one that a shutdown would give it
 abbrev pub answer_at : (Sources → Call → Answer) → List Event → ℕ → Answer
@@ -32,20 +32,20 @@ pub record IsNoted (answer_of : Sources → Call → Answer) (problems_of : Sour
 
 -- The engine has the asks that are open and were fed, over the sources in force.
 pub record IsServed (session : SessionState) (state : EngineState) : Type 0 where
-  pub fed : map (λ ask. ask.0) state.asks ≡ (if session.closed then [] else fed_of session.frames)
+  pub fed : map (λ ask. ask.0) state.asks ≡ (if session.closed then [] else fed_of session.outers)
   pub asked : All (IsAsked session.journal) state.asks
   pub staged : state.staged ≡ None
   pub sources : state.sources ≡ after session.journal
 
 pub record InStep (answer_of : Sources → Call → Answer) (problems_of : Sources → Bytes → List Problem) (session : SessionState) (state : EngineState) : Type 0 where
-  pub holds : Holds (asks_of session.frames) session.journal
-  pub stacked : AreStacked session.frames
+  pub holds : Holds (asks_of session.outers) session.journal
+  pub stacked : AreStacked session.outers
   pub closed : session.closed ≡ is_closed session.journal
   pub noted : IsNoted answer_of problems_of session
   pub served : IsServed session state
 
 -- The engine has checked what is noted, and, where it has told of a check that is not, the first file due.
-abbrev pub IsAhead : (Sources → Bytes → List Problem) → List Event → Option Found → List Bytes → Type 0
+abbrev pub IsAhead : (Sources → Bytes → List Problem) → List Event → Option Pending → List Bytes → Type 0
 IsAhead problems_of journal None names = names ≡ checked journal
 IsAhead problems_of journal (Some found) names =
     (names ≡ checked journal ++ found.file ∷ []) × (found.problems ≡ problems_of (after journal) found.file)

@@ -3,8 +3,8 @@ use Rattle.std.specs.Prelude.{ℕ, Bool, false, List, [], ◌∷◌, Option, Non
 use Rattle.pc_terms.specs.declared.problems.Problem.{Problem}
 use Rattle.ask_history.specs.declared.answers.Answer.{Answer}
 use Rattle.ask_history.specs.declared.events.Event.{Event}
-use Rattle.schedule_player.specs.declared.frames.Frame.{Frame}
-use Rattle.schedule_player.specs.declared.session.Found.{Found}
+use Rattle.schedule_player.specs.declared.outers.Outer.{Outer}
+use Rattle.schedule_player.specs.declared.session.Pending.{Pending}
 
 pub record SessionState : Type 0 where
   pub journal : List Event
@@ -15,11 +15,11 @@ pub record SessionState : Type 0 where
   -- the problems of each check, in order
   pub problems : List (List Problem)
   -- the lines around the next one, the innermost first
-  pub frames : List Frame
+  pub outers : List Outer
   -- what the engine has told of a check that is not noted
-  pub found : Option Found
+  pub found : Option Pending
   pub closed : Bool
 
 -- Nothing was played. No line has the number 0.
 abbrev pub fresh_session : SessionState
-fresh_session = record { journal = []; tickets = None ∷ []; answers = []; problems = []; frames = []; found = None; closed = false }
+fresh_session = record { journal = []; tickets = None ∷ []; answers = []; problems = []; outers = []; found = None; closed = false }

@@ -17,10 +17,10 @@ use Rattle.work_queue.specs.declared.limits.Settling.TheVariants as settling
 use Rattle.schedule_player.specs.Owed.{is_settle}
 use Rattle.schedule_player.specs.Around.{HasMarks, LeadsTo, ComesAt, ending, around, onto, with_work, top_work, top_under_ask}
 use Rattle.schedule_player.specs.SessionState.{SessionState}
-use Rattle.schedule_player.specs.declared.frames.Work.{Work}
-use Rattle.schedule_player.specs.declared.frames.Work.TheVariants.{Ask, Checks, Check, Beside, Passed}
-use Rattle.schedule_player.specs.declared.frames.Frame.{Frame}
-use Rattle.schedule_player.specs.declared.session.Found.{Found}
+use Rattle.schedule_player.specs.declared.outers.Work.{Work}
+use Rattle.schedule_player.specs.declared.outers.Work.TheVariants.{Ask, Checks, Check, Beside, Passed}
+use Rattle.schedule_player.specs.declared.outers.Outer.{Outer}
+use Rattle.schedule_player.specs.declared.session.Pending.{Pending}
 use Rattle.schedule_player.specs.declared.checks.Step.{Step}
 use Rattle.schedule_player.specs.declared.checks.Step.TheVariants as step
 
@@ -45,8 +45,8 @@ ask_in (Ask ticket is_fed turns) = Some (ticket, is_fed)
 ask_in _ = None
 
 -- the ask that is the innermost line, and whether the engine has it
-abbrev pub top_ask : List Frame → Option (ℕ × Bool)
-top_ask frames = ask_in (top_work frames)
+abbrev pub top_ask : List Outer → Option (ℕ × Bool)
+top_ask outers = ask_in (top_work outers)
 
 -- ---- ends
 
@@ -62,14 +62,14 @@ pub record Ends (work : Work) (old new : List Event) : Type 0 where
 
 -- The innermost line has ended.
 pub record EndsTop (old new : SessionState) : Type 0 where
-  pub ends : Ends (top_work old.frames) old.journal new.journal
-  pub frames : new.frames ≡ around old.frames
+  pub ends : Ends (top_work old.outers) old.journal new.journal
+  pub outers : new.outers ≡ around old.outers
   pub tickets : new.tickets ≡ old.tickets
 
 -- What is left of the innermost line is the same.
 pub record KeepsTop (old new : SessionState) : Type 0 where
-  pub keeps : KeepsLine (top_work old.frames) old.journal new.journal
-  pub frames : new.frames ≡ old.frames
+  pub keeps : KeepsLine (top_work old.outers) old.journal new.journal
+  pub outers : new.outers ≡ old.outers
   pub tickets : new.tickets ≡ old.tickets
 
 -- Calls were settled, and nothing else.
@@ -81,24 +81,24 @@ pub record OnlySettles (old new : List Event) : Type 0 where
 -- ---- lines
 
 -- The innermost line is one of which nothing was played.
-pub record IsPlaced (frames : List Frame) : Type 0 where
+pub record IsPlaced (outers : List Outer) : Type 0 where
   pub level : ℕ
-  pub around : List Frame
-  pub is : frames ≡ onto level around
+  pub around : List Outer
+  pub is : outers ≡ onto level around
 
 -- An order was played: what it does to the journal is done, but for what becomes of the lines under it.
 pub record PlaysOrder (order : Order) (old new : SessionState) : Type 0 where
   pub work : Work
-  pub frames : new.frames ≡ with_work work old.frames
+  pub outers : new.outers ≡ with_work work old.outers
   pub number : length new.tickets ≡ number_after order (length old.tickets)
   pub marks : (without : List ℕ) → HasMarks without new.journal → HasMarks without old.journal
   pub plays : (without : List ℕ) (parts : List Part) → HasMarks without new.journal
       → play_line without (length old.tickets) order parts old.journal ≡ ending without work parts new.journal
 
 -- a line that stands under the innermost one, if there is one
-abbrev pub IsUnder : List Frame → ℕ → Type 0
+abbrev pub IsUnder : List Outer → ℕ → Type 0
 IsUnder [] level = ⊤
-IsUnder (frame ∷ frames) level = frame.level < level
+IsUnder (outer ∷ outers) level = outer.level < level
 
 -- The innermost line has come to where the lines of this check are played.
 abbrev pub HasCome : Work → ℕ → Type 0
@@ -110,27 +110,27 @@ HasCome _ check = ⊤
 -- What is left is the same as before, where a line of this level and check is the next.
 pub record Waits (level check : ℕ) (old new : SessionState) : Type 0 where
   pub leads : (lines : List Line) (number : ℕ) (line : Line) (inner rest : Nested) → line.level ≡ level → line.check ≡ check
-      → LeadsTo lines old.frames (Then number line inner rest) old.journal → LeadsTo lines new.frames (Then number line inner rest) new.journal
+      → LeadsTo lines old.outers (Then number line inner rest) old.journal → LeadsTo lines new.outers (Then number line inner rest) new.journal
 
 -- The innermost line comes nearer to where a line of this check is played.
 pub record Reaches (check : ℕ) (old new : SessionState) : Type 0 where
-  pub under : (level : ℕ) → IsUnder old.frames level → IsUnder new.frames level
-  pub waits : (level : ℕ) → IsUnder old.frames level → Waits level check old new
+  pub under : (level : ℕ) → IsUnder old.outers level → IsUnder new.outers level
+  pub waits : (level : ℕ) → IsUnder old.outers level → Waits level check old new
   pub tickets : new.tickets ≡ old.tickets
 
 -- All lines are ended that cannot have one of this level under them: what is left is the same, where none of a deeper level is next.
 pub record EndsTo (level : ℕ) (old new : SessionState) : Type 0 where
-  pub leads : (lines : List Line) (rest : Nested) → ComesAt level rest → LeadsTo lines old.frames rest old.journal → LeadsTo lines new.frames rest new.journal
+  pub leads : (lines : List Line) (rest : Nested) → ComesAt level rest → LeadsTo lines old.outers rest old.journal → LeadsTo lines new.outers rest new.journal
   pub tickets : new.tickets ≡ old.tickets
 
 -- What is left is the same, where this line is the next.
 pub record KeepsNext (line : Line) (old new : SessionState) : Type 0 where
-  pub leads : (lines : List Line) (rest : Nested) → LeadsTo lines old.frames (over (length old.tickets) line rest) old.journal
-      → LeadsTo lines new.frames (over (length old.tickets) line rest) new.journal
+  pub leads : (lines : List Line) (rest : Nested) → LeadsTo lines old.outers (over (length old.tickets) line rest) old.journal
+      → LeadsTo lines new.outers (over (length old.tickets) line rest) new.journal
 
 -- A line was played: what is left are the lines after it.
 pub record PlaysLine (line : Line) (old new : SessionState) : Type 0 where
-  pub leads : (lines : List Line) (rest : Nested) → LeadsTo lines old.frames (over (length old.tickets) line rest) old.journal → LeadsTo lines new.frames rest new.journal
+  pub leads : (lines : List Line) (rest : Nested) → LeadsTo lines old.outers (over (length old.tickets) line rest) old.journal → LeadsTo lines new.outers rest new.journal
   pub number : length new.tickets ≡ number_after line.order (length old.tickets)
 
 -- Only the turns of the innermost line may be more.
@@ -141,15 +141,15 @@ IsSameLine old work = work ≡ old
 
 pub record IsSameButTurns (old new : SessionState) : Type 0 where
   pub work : Work
-  pub line : IsSameLine (top_work old.frames) work
-  pub frames : new.frames ≡ with_work work old.frames
+  pub line : IsSameLine (top_work old.outers) work
+  pub outers : new.outers ≡ with_work work old.outers
   pub journal : new.journal ≡ old.journal
   pub tickets : new.tickets ≡ old.tickets
 
 -- ---- checks
 
 -- What a turn of a check says of the files that are due.
-abbrev pub Says : Step → List Bytes → Option Found → Type 0
+abbrev pub Says : Step → List Bytes → Option Pending → Type 0
 Says step.GoesOn names found = (some_of names ≡ true) × (found ≡ None)
 Says step.Found names found = (some_of names ≡ true) × (is_some found ≡ true)
 Says step.NothingDue names found = (names ≡ []) × (found ≡ None)
@@ -164,7 +164,7 @@ pub record IsSameButFound (old new : SessionState) : Type 0 where
 
 -- Only checks may be new.
 pub record IsSameButChecks (old new : SessionState) : Type 0 where
-  pub frames : new.frames ≡ old.frames
+  pub outers : new.outers ≡ old.outers
   pub tickets : new.tickets ≡ old.tickets
   pub closed : new.closed ≡ old.closed
 
@@ -187,16 +187,16 @@ PassesOver (Err e) order old new = new ≡ old
 
 -- what becomes of the lines under an `idle`
 abbrev pub idle_work : SessionState → Work
-idle_work session = if session.closed || top_under_ask session.frames then Beside else Checks 0
+idle_work session = if session.closed || top_under_ask session.outers then Beside else Checks 0
 
 -- ---- the whole
 
 -- What is left of these lines comes to the journal of the schedule.
 pub record IsUnderway (lines : List Line) (session : SessionState) : Type 0 where
   pub rest : Nested
-  pub leads : LeadsTo lines session.frames rest session.journal
+  pub leads : LeadsTo lines session.outers rest session.journal
 
 -- Nothing is left of these lines.
 pub record IsPlayed (lines : List Line) (session : SessionState) : Type 0 where
-  pub none : session.frames ≡ []
-  pub leads : LeadsTo lines session.frames End session.journal
+  pub none : session.outers ≡ []
+  pub leads : LeadsTo lines session.outers End session.journal

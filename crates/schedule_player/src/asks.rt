@@ -13,9 +13,9 @@ ghost use Rattle.schedule_player.specs.Owed.{CanPost};
 ghost use Rattle.schedule_player.specs.Around.{around, top_work, with_work};
 ghost use Rattle.schedule_player.specs.InStep.{InStep, ChecksInStep};
 ghost use Rattle.schedule_player.specs.Steps.{IsPlaced, Finds, IsRight, top_ask, Ends, OnlySettles, PlaysOrder, IsSameButTurns};
-ghost use Rattle.schedule_player.specs.declared.frames.Work.TheVariants.{Passed, Ask};
+ghost use Rattle.schedule_player.specs.declared.outers.Work.TheVariants.{Passed, Ask};
 
-use crate::frames::Work;
+use crate::outers::Work;
 use crate::session::Session;
 use ask_history::{Answer, Call, Effect, Engine, Fed, Turn};
 use pc_terms::NoMemory;
@@ -85,7 +85,7 @@ impl Session {
     fn found_for<N: Engine>(&self, engine: &mut N, ticket: u64, is_fed: bool) -> Settling
         requires in_step { InStep N.answer_of N.problems_of self.now (N.state engine.old) }
         requires live { self.now.closed ≡ false }
-        requires top { top_ask self.now.frames ≡ Some (ticket, is_fed) }
+        requires top { top_ask self.now.outers ≡ Some (ticket, is_fed) }
         ensures right { IsRight N.answer_of self.now.journal ticket result }
         ensures same { N.state engine.new ≡ N.state engine.old }
     {
@@ -102,12 +102,12 @@ impl Session {
     fn settle_ask<N: Engine>(&mut self, engine: &mut N, ticket: u64, is_fed: bool, what: Settling)
         requires in_step { InStep N.answer_of N.problems_of self.old (N.state engine.old) }
         requires live { self.old.closed ≡ false }
-        requires top { top_ask self.old.frames ≡ Some (ticket, is_fed) }
+        requires top { top_ask self.old.outers ≡ Some (ticket, is_fed) }
         requires right { IsRight N.answer_of self.old.journal ticket what }
         ensures in_step { InStep N.answer_of N.problems_of self.new (N.state engine.new) }
         ensures checks { ChecksInStep N.problems_of self.old (N.state engine.old) → ChecksInStep N.problems_of self.new (N.state engine.new) }
         ensures journal { self.new.journal ≡ self.old.journal ++ Settle ticket (mark_of what) ∷ [] }
-        ensures frames { self.new.frames ≡ around self.old.frames }
+        ensures outers { self.new.outers ≡ around self.old.outers }
         ensures tickets { self.new.tickets ≡ self.old.tickets }
     {
         self.settle(ticket, what);
@@ -118,12 +118,12 @@ impl Session {
     /// Ends the innermost line, an ask, when its inner lines are played: it is settled where it is open still.
     pub fn finish_ask<N: Engine>(&mut self, engine: &mut N, ticket: u64, is_fed: bool)
         requires in_step { InStep N.answer_of N.problems_of self.old (N.state engine.old) }
-        requires top { top_ask self.old.frames ≡ Some (ticket, is_fed) }
+        requires top { top_ask self.old.outers ≡ Some (ticket, is_fed) }
         ensures in_step { InStep N.answer_of N.problems_of self.new (N.state engine.new) }
         ensures checks { ChecksInStep N.problems_of self.old (N.state engine.old) → ChecksInStep N.problems_of self.new (N.state engine.new) }
-        ensures ends { Ends (top_work self.old.frames) self.old.journal self.new.journal }
+        ensures ends { Ends (top_work self.old.outers) self.old.journal self.new.journal }
         ensures settles { OnlySettles self.old.journal self.new.journal }
-        ensures frames { self.new.frames ≡ around self.old.frames }
+        ensures outers { self.new.outers ≡ around self.old.outers }
         ensures tickets { self.new.tickets ≡ self.old.tickets }
     {
         if self.is_closed() {
@@ -137,10 +137,10 @@ impl Session {
     /// Takes the innermost line off, an ask, and settles it as out of memory where it is open still.
     pub fn give_up_ask<N: Engine>(&mut self, engine: &mut N, ticket: u64, is_fed: bool)
         requires in_step { InStep N.answer_of N.problems_of self.old (N.state engine.old) }
-        requires top { top_ask self.old.frames ≡ Some (ticket, is_fed) }
+        requires top { top_ask self.old.outers ≡ Some (ticket, is_fed) }
         ensures in_step { InStep N.answer_of N.problems_of self.new (N.state engine.new) }
         ensures settles { OnlySettles self.old.journal self.new.journal }
-        ensures frames { self.new.frames ≡ around self.old.frames }
+        ensures outers { self.new.outers ≡ around self.old.outers }
     {
         if self.is_closed() {
             self.pop();
@@ -180,7 +180,7 @@ impl Session {
         requires checks { ChecksInStep N.problems_of self.old (N.state engine.old) }
         requires live { self.old.closed ≡ false }
         requires can { CanPost call }
-        requires placed { IsPlaced self.old.frames }
+        requires placed { IsPlaced self.old.outers }
         ensures in_step { InStep N.answer_of N.problems_of self.new (N.state engine.new) }
         ensures checks { ChecksInStep N.problems_of self.new (N.state engine.new) }
         ensures plays { OnOk result (PlaysOrder (order.Call call) self.old self.new) }

@@ -9,11 +9,11 @@ ghost use Rattle.schedule_player.specs.Reporting.{KeepsTold};
 ghost use Rattle.schedule_player.specs.Around.{asks_of, top_work, with_work};
 ghost use Rattle.schedule_player.specs.InStep.{InStep, ChecksInStep};
 ghost use Rattle.schedule_player.specs.Steps.{Says, GoesOnLess, IsSameButFound, IsSameButChecks, ChecksOn, IsSameButTurns, IsOfChecks, Reaches, HasCome};
-ghost use Rattle.schedule_player.specs.declared.frames.Work.TheVariants.{Checks, Check, Passed};
+ghost use Rattle.schedule_player.specs.declared.outers.Work.TheVariants.{Checks, Check, Passed};
 ghost use Rattle.schedule_player.specs.declared.checks.Step.TheVariants as step;
 
-use crate::frames::Work;
-use crate::session::{Found, Session};
+use crate::outers::Work;
+use crate::session::{Pending, Session};
 use ask_history::{Engine, Turn};
 use pc_terms::NoMemory;
 use report_hub::Hub;
@@ -32,7 +32,7 @@ impl Session {
         requires in_step { InStep N.answer_of N.problems_of self.old (N.state engine.old) }
         requires checks { ChecksInStep N.problems_of self.old (N.state engine.old) }
         requires live { self.old.closed ≡ false }
-        requires alone { asks_of self.old.frames ≡ [] }
+        requires alone { asks_of self.old.outers ≡ [] }
         ensures in_step { InStep N.answer_of N.problems_of self.new (N.state engine.new) }
         ensures checks { OnOk result (ChecksInStep N.problems_of self.new (N.state engine.new)) }
         ensures same { IsSameButFound self.old self.new }
@@ -46,7 +46,7 @@ impl Session {
             Turn::Safe => Ok(Step::GoesOn),
             Turn::Idle => Ok(Step::NothingDue),
             Turn::Checked(file, problems) => {
-                self.find(Found { file, problems });
+                self.find(Pending { file, problems });
                 Ok(Step::Found)
             }
             _ => Err(NoMemory {}),
@@ -57,7 +57,7 @@ impl Session {
     fn begins<N: Engine>(&mut self, engine: &mut N) -> Result<bool, NoMemory>
         requires in_step { InStep N.answer_of N.problems_of self.old (N.state engine.old) }
         requires checks { ChecksInStep N.problems_of self.old (N.state engine.old) }
-        requires alone { asks_of self.old.frames ≡ [] }
+        requires alone { asks_of self.old.outers ≡ [] }
         ensures in_step { InStep N.answer_of N.problems_of self.new (N.state engine.new) }
         ensures checks { OnOk result (ChecksInStep N.problems_of self.new (N.state engine.new)) }
         ensures same { IsSameButFound self.old self.new }
@@ -78,7 +78,7 @@ impl Session {
         requires in_step { InStep N.answer_of N.problems_of self.old (N.state engine.old) }
         requires checks { ChecksInStep N.problems_of self.old (N.state engine.old) }
         requires live { self.old.closed ≡ false }
-        requires alone { asks_of self.old.frames ≡ [] }
+        requires alone { asks_of self.old.outers ≡ [] }
         ensures in_step { InStep N.answer_of N.problems_of self.new (N.state engine.new) }
         ensures checks { OnOk result (ChecksInStep N.problems_of self.new (N.state engine.new)) }
         ensures same { IsSameButFound self.old self.new }
@@ -98,7 +98,7 @@ impl Session {
     fn check<N: Engine>(&mut self, engine: &mut N, hub: &mut Hub) -> Result<bool, NoMemory>
         requires in_step { InStep N.answer_of N.problems_of self.old (N.state engine.old) }
         requires checks { ChecksInStep N.problems_of self.old (N.state engine.old) }
-        requires alone { asks_of self.old.frames ≡ [] }
+        requires alone { asks_of self.old.outers ≡ [] }
         ensures in_step { InStep N.answer_of N.problems_of self.new (N.state engine.new) }
         ensures checks { OnOk result (ChecksInStep N.problems_of self.new (N.state engine.new)) }
         ensures same { IsSameButChecks self.old self.new }
@@ -126,7 +126,7 @@ impl Session {
     pub fn check_all<N: Engine>(&mut self, engine: &mut N, hub: &mut Hub) -> Result<(), NoMemory>
         requires in_step { InStep N.answer_of N.problems_of self.old (N.state engine.old) }
         requires checks { ChecksInStep N.problems_of self.old (N.state engine.old) }
-        requires alone { asks_of self.old.frames ≡ [] }
+        requires alone { asks_of self.old.outers ≡ [] }
         ensures in_step { InStep N.answer_of N.problems_of self.new (N.state engine.new) }
         ensures checks { OnOk result (ChecksInStep N.problems_of self.new (N.state engine.new)) }
         ensures same { IsSameButChecks self.old self.new }
@@ -148,11 +148,11 @@ impl Session {
     ) -> Result<(), NoMemory>
         requires in_step { InStep N.answer_of N.problems_of self.old (N.state engine.old) }
         requires checks { ChecksInStep N.problems_of self.old (N.state engine.old) }
-        requires line { top_work self.old.frames ≡ Checks next }
+        requires line { top_work self.old.outers ≡ Checks next }
         ensures in_step { InStep N.answer_of N.problems_of self.new (N.state engine.new) }
         ensures checks { OnOk result (ChecksInStep N.problems_of self.new (N.state engine.new)) }
         ensures reaches { Reaches number self.old self.new }
-        ensures come { OnOk result (HasCome (top_work self.new.frames) number) }
+        ensures come { OnOk result (HasCome (top_work self.new.outers) number) }
         ensures told { KeepsTold (of_box told) (of_box faults) (findings N.problems_of self.old.journal) (reporters_of hub.old) (findings N.problems_of self.new.journal) (reporters_of hub.new) }
     {
         let mut next = next;
@@ -179,12 +179,12 @@ impl Session {
     ) -> Result<(), NoMemory>
         requires in_step { InStep N.answer_of N.problems_of self.old (N.state engine.old) }
         requires checks { ChecksInStep N.problems_of self.old (N.state engine.old) }
-        requires line { (turns : ℕ) × (top_work self.old.frames ≡ Check ended turns) }
+        requires line { (turns : ℕ) × (top_work self.old.outers ≡ Check ended turns) }
         requires other { ended ≢ number }
         ensures in_step { InStep N.answer_of N.problems_of self.new (N.state engine.new) }
         ensures checks { OnOk result (ChecksInStep N.problems_of self.new (N.state engine.new)) }
         ensures reaches { Reaches number self.old self.new }
-        ensures come { OnOk result (HasCome (top_work self.new.frames) number) }
+        ensures come { OnOk result (HasCome (top_work self.new.outers) number) }
         ensures told { KeepsTold (of_box told) (of_box faults) (findings N.problems_of self.old.journal) (reporters_of hub.old) (findings N.problems_of self.new.journal) (reporters_of hub.new) }
     {
         let next = u64::from(ended) + 1;
@@ -202,11 +202,11 @@ impl Session {
     ) -> Result<(), NoMemory>
         requires in_step { InStep N.answer_of N.problems_of self.old (N.state engine.old) }
         requires checks { ChecksInStep N.problems_of self.old (N.state engine.old) }
-        requires line { top_work self.old.frames ≢ Passed }
+        requires line { top_work self.old.outers ≢ Passed }
         ensures in_step { InStep N.answer_of N.problems_of self.new (N.state engine.new) }
         ensures checks { OnOk result (ChecksInStep N.problems_of self.new (N.state engine.new)) }
         ensures reaches { Reaches number self.old self.new }
-        ensures come { OnOk result (HasCome (top_work self.new.frames) number) }
+        ensures come { OnOk result (HasCome (top_work self.new.outers) number) }
         ensures told { KeepsTold (of_box told) (of_box faults) (findings N.problems_of self.old.journal) (reporters_of hub.old) (findings N.problems_of self.new.journal) (reporters_of hub.new) }
     {
         match self.top_work() {
@@ -246,7 +246,7 @@ impl Session {
         requires in_step { InStep N.answer_of N.problems_of self.old (N.state engine.old) }
         requires checks { ChecksInStep N.problems_of self.old (N.state engine.old) }
         requires live { self.old.closed ≡ false }
-        requires alone { asks_of self.old.frames ≡ [] }
+        requires alone { asks_of self.old.outers ≡ [] }
         ensures in_step { InStep N.answer_of N.problems_of self.new (N.state engine.new) }
         ensures checks { OnOk result (ChecksInStep N.problems_of self.new (N.state engine.new)) }
         ensures same { IsSameButFound self.old self.new }

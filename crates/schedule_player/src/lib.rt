@@ -3,8 +3,8 @@
 
 mod asks;
 mod checks;
-mod frames;
 mod lines;
+mod outers;
 mod played;
 mod playing;
 mod session;

@@ -13,9 +13,9 @@ ghost use Rattle.schedule_player.specs.InStep.{InStep, ChecksInStep};
 ghost use Rattle.schedule_player.specs.Steps.{IsPlaced, PlaysOrder, Ends, EndsTop, KeepsTop, IsOfChecks, EndsTo, IsUnder, Reaches, HasCome, KeepsNext, PlaysLine, PassesOver, idle_work};
 ghost use Rattle.ask_history.specs.Closing.{after_close};
 ghost use Rattle.ask_history.specs.Engine.{stopped_state};
-ghost use Rattle.schedule_player.specs.declared.frames.Work.TheVariants.{Passed};
+ghost use Rattle.schedule_player.specs.declared.outers.Work.TheVariants.{Passed};
 
-use crate::frames::Work;
+use crate::outers::Work;
 use crate::session::Session;
 use ask_history::{Call, Engine, Line, Order};
 use pc_terms::NoMemory;
@@ -26,7 +26,7 @@ impl Session {
     fn finish_checks<N: Engine>(&mut self, engine: &mut N, hub: &mut Hub) -> Result<(), NoMemory>
         requires in_step { InStep N.answer_of N.problems_of self.old (N.state engine.old) }
         requires checks { ChecksInStep N.problems_of self.old (N.state engine.old) }
-        requires line { IsOfChecks (top_work self.old.frames) }
+        requires line { IsOfChecks (top_work self.old.outers) }
         ensures in_step { InStep N.answer_of N.problems_of self.new (N.state engine.new) }
         ensures checks { OnOk result (ChecksInStep N.problems_of self.new (N.state engine.new)) }
         ensures ends { OnOk result (EndsTop self.old self.new) }
@@ -51,7 +51,7 @@ impl Session {
     ) -> Result<(), NoMemory>
         requires in_step { InStep N.answer_of N.problems_of self.old (N.state engine.old) }
         requires checks { ChecksInStep N.problems_of self.old (N.state engine.old) }
-        requires top { top_work self.old.frames ≡ work }
+        requires top { top_work self.old.outers ≡ work }
         ensures in_step { InStep N.answer_of N.problems_of self.new (N.state engine.new) }
         ensures checks { OnOk result (ChecksInStep N.problems_of self.new (N.state engine.new)) }
         ensures ends { OnOk result (EndsTop self.old self.new) }
@@ -80,14 +80,14 @@ impl Session {
         ensures in_step { InStep N.answer_of N.problems_of self.new (N.state engine.new) }
         ensures checks { OnOk result (ChecksInStep N.problems_of self.new (N.state engine.new)) }
         ensures ends { EndsTo level self.old self.new }
-        ensures under { OnOk result (IsUnder self.new.frames level) }
+        ensures under { OnOk result (IsUnder self.new.outers level) }
         ensures told { KeepsTold (of_box told) (of_box faults) (findings N.problems_of self.old.journal) (reporters_of hub.old) (findings N.problems_of self.new.journal) (reporters_of hub.new) }
     {
-        while let Some(frame) = self.top() {
-            if frame.level < level {
+        while let Some(outer) = self.top() {
+            if outer.level < level {
                 break;
             }
-            self.finish(engine, hub, frame.work)?;
+            self.finish(engine, hub, outer.work)?;
         }
         Ok(())
     }
@@ -102,11 +102,11 @@ impl Session {
     ) -> Result<(), NoMemory>
         requires in_step { InStep N.answer_of N.problems_of self.old (N.state engine.old) }
         requires checks { ChecksInStep N.problems_of self.old (N.state engine.old) }
-        requires line { top_work self.old.frames ≢ Passed }
+        requires line { top_work self.old.outers ≢ Passed }
         ensures in_step { InStep N.answer_of N.problems_of self.new (N.state engine.new) }
         ensures checks { OnOk result (ChecksInStep N.problems_of self.new (N.state engine.new)) }
         ensures reaches { Reaches check self.old self.new }
-        ensures come { OnOk result (HasCome (top_work self.new.frames) check) }
+        ensures come { OnOk result (HasCome (top_work self.new.outers) check) }
         ensures told { KeepsTold (of_box told) (of_box faults) (findings N.problems_of self.old.journal) (reporters_of hub.old) (findings N.problems_of self.new.journal) (reporters_of hub.new) }
     {
         self.reach(engine, hub, check)?;
@@ -120,7 +120,7 @@ impl Session {
         requires in_step { InStep N.answer_of N.problems_of self.old (N.state engine.old) }
         requires checks { ChecksInStep N.problems_of self.old (N.state engine.old) }
         requires can { CanPost call }
-        requires placed { IsPlaced self.old.frames }
+        requires placed { IsPlaced self.old.outers }
         ensures in_step { InStep N.answer_of N.problems_of self.new (N.state engine.new) }
         ensures checks { ChecksInStep N.problems_of self.new (N.state engine.new) }
         ensures plays { OnOk result (PlaysOrder (order.Call call) self.old self.new) }
@@ -138,7 +138,7 @@ impl Session {
 
     // Files are checked where no ask is open and the session is not shut down.
     fn play_idle(&mut self)
-        ensures { self.new ≡ record self.old { frames = with_work (idle_work self.old) self.old.frames } }
+        ensures { self.new ≡ record self.old { outers = with_work (idle_work self.old) self.old.outers } }
     {
         if self.is_closed() || self.is_under_ask() {
             self.set_work(Work::Beside);
@@ -160,7 +160,7 @@ impl Session {
         requires in_step { InStep N.answer_of N.problems_of self.old (N.state engine.old) }
         requires checks { ChecksInStep N.problems_of self.old (N.state engine.old) }
         requires can { CanPlay order }
-        requires placed { IsPlaced self.old.frames }
+        requires placed { IsPlaced self.old.outers }
         ensures in_step { InStep N.answer_of N.problems_of self.new (N.state engine.new) }
         ensures checks { ChecksInStep N.problems_of self.new (N.state engine.new) }
         ensures plays { OnOk result (PlaysOrder order self.old self.new) }
@@ -199,7 +199,7 @@ impl Session {
         requires can { CanPlay order }
         ensures in_step { InStep N.answer_of N.problems_of self.new (N.state engine.new) }
         ensures checks { OnOk result (ChecksInStep N.problems_of self.new (N.state engine.new)) }
-        ensures plays { OnOk result ((line : Line) → line.level ≡ level → line.order ≡ order → IsUnder self.old.frames level → HasCome (top_work self.old.frames) line.check → PlaysLine line self.old self.new) }
+        ensures plays { OnOk result ((line : Line) → line.level ≡ level → line.order ≡ order → IsUnder self.old.outers level → HasCome (top_work self.old.outers) line.check → PlaysLine line self.old self.new) }
         ensures err { OnErr result (self.new ≡ self.old) }
         ensures found { findings N.problems_of self.new.journal ≡ findings N.problems_of self.old.journal }
     {
@@ -249,8 +249,8 @@ impl Session {
 
     // Whether the lines under the innermost one are passed over.
     fn is_passing_over(&self) -> bool
-        ensures passed { result ≡ true → top_work self.now.frames ≡ Passed }
-        ensures other { result ≡ false → top_work self.now.frames ≢ Passed }
+        ensures passed { result ≡ true → top_work self.now.outers ≡ Passed }
+        ensures other { result ≡ false → top_work self.now.outers ≢ Passed }
     {
         match self.top_work() {
             Work::Ask { .. } => false,

@@ -10,7 +10,7 @@ ghost use Rattle.report_hub.specs.Hub.{reporters_of, of_box, OfEach, IsToldMost}
 ghost use Rattle.schedule_player.specs.Owed.{CanPlayAll, PlayOwes};
 
 use crate::Played;
-use crate::frames::Work;
+use crate::outers::Work;
 use crate::session::Session;
 use ask_history::{Engine, Journal, Line};
 use pc_terms::{NoMemory, Row};
@@ -46,9 +46,9 @@ impl Session {
     // Takes the innermost line off, and settles it as out of memory where it is an open ask.
     fn give_up_top<N: Engine>(&mut self, engine: &mut N, work: Work)
         requires in_step { InStep N.answer_of N.problems_of self.old (N.state engine.old) }
-        requires top { top_work self.old.frames ≡ work }
+        requires top { top_work self.old.outers ≡ work }
         ensures in_step { InStep N.answer_of N.problems_of self.new (N.state engine.new) }
-        ensures frames { self.new.frames ≡ around self.old.frames }
+        ensures outers { self.new.outers ≡ around self.old.outers }
         ensures settles { OnlySettles self.old.journal self.new.journal }
     {
         match work {
@@ -64,12 +64,12 @@ impl Session {
     fn give_up<N: Engine>(&mut self, engine: &mut N)
         requires in_step { InStep N.answer_of N.problems_of self.old (N.state engine.old) }
         ensures in_step { InStep N.answer_of N.problems_of self.new (N.state engine.new) }
-        ensures frames { self.new.frames ≡ [] }
+        ensures outers { self.new.outers ≡ [] }
         ensures settles { OnlySettles self.old.journal self.new.journal }
-        ensures none { self.old.frames ≡ [] → self.new ≡ self.old }
+        ensures none { self.old.outers ≡ [] → self.new ≡ self.old }
     {
-        while let Some(frame) = self.top() {
-            self.give_up_top(engine, frame.work);
+        while let Some(outer) = self.top() {
+            self.give_up_top(engine, outer.work);
         }
     }
 }

@@ -15,7 +15,7 @@ ghost use Rattle.schedule_player.specs.SessionState.{fresh_session};
 ghost use Rattle.schedule_player.specs.Steps.{IsAccepted};
 
 use crate::Played;
-use crate::frames::{Frame, Work};
+use crate::outers::{Outer, Work};
 use ask_history::{Answer, Call, Effect};
 use pc_terms::{NoMemory, Problem, Row, Text};
 use report_hub::Hub;
@@ -26,7 +26,7 @@ use work_queue::{Limits, Queue, Settling};
 
 /// The problems of a file that a check found, before they are noted.
 #[derive(Debug, Drop)]
-pub struct Found {
+pub struct Pending {
     pub file: Text,
     pub problems: Row<Problem>,
 }
@@ -49,9 +49,9 @@ pub struct Session {
     // The problems of each check, in order.
     problems: Vec<Row<Problem>>,
     // The lines around the next one, the innermost first.
-    frames: VecDeque<Frame>,
+    outers: VecDeque<Outer>,
     // What the engine has told of a check that is not noted.
-    found: Option<Found>,
+    found: Option<Pending>,
     closed: bool,
 }
 
@@ -64,7 +64,7 @@ impl Model for Session {
 
     ghost coded = { Prim.hlevel (codes, answer.the_row.coded) };
 
-    ghost view = { λ session. record { journal = session.queue.journal; tickets = session.tickets.items; answers = session.answers.items; problems = session.problems.items; frames = session.frames.items; found = session.found; closed = session.closed } };
+    ghost view = { λ session. record { journal = session.queue.journal; tickets = session.tickets.items; answers = session.answers.items; problems = session.problems.items; outers = session.outers.items; found = session.found; closed = session.closed } };
 }
 
 impl Session {
@@ -86,7 +86,7 @@ impl Session {
             tickets,
             answers: Vec::new(alloc),
             problems: Vec::new(alloc),
-            frames: VecDeque::new(alloc),
+            outers: VecDeque::new(alloc),
             found: None,
             closed: false,
         })
@@ -193,7 +193,7 @@ impl Session {
     }
 
     /// Keeps what the engine has told of a check.
-    pub fn find(&mut self, found: Found)
+    pub fn find(&mut self, found: Pending)
         ensures { self.new ≡ record self.old { found = Some found } }
     {
         self.found = Some(found);
@@ -214,14 +214,14 @@ impl Session {
     }
 
     /// Notes a check of which the engine has told, and then tells the reporters.
-    pub fn note(&mut self, found: Found, hub: &mut Hub) -> Result<(), NoMemory>
+    pub fn note(&mut self, found: Pending, hub: &mut Hub) -> Result<(), NoMemory>
         requires { IsTrue (may_follow self.old.journal (Checked found.file)) }
         ensures ok { OnOk result (self.new ≡ record self.old { journal = self.old.journal ++ Checked found.file ∷ []; problems = self.old.problems ++ found.problems ∷ [] }) }
         ensures told { OnOk result (OfEach (IsTold (of_box told) (of_box faults) (found.file, found.problems)) (reporters_of hub.old) (reporters_of hub.new)) }
         ensures err { OnErr result (self.new ≡ self.old) }
         ensures untold { OnErr result (reporters_of hub.new ≡ reporters_of hub.old) }
     {
-        let Found { file, problems } = found;
+        let Pending { file, problems } = found;
         self.problems.reserve(1)?;
         self.queue.checked(&file)?;
         hub.tell(&file, &problems);
@@ -230,7 +230,7 @@ impl Session {
     }
 
     /// What the engine has told of a check that is not noted, to be noted now.
-    pub fn take_found(&mut self) -> Option<Found>
+    pub fn take_found(&mut self) -> Option<Pending>
         ensures found { result ≡ self.old.found }
         ensures session { self.new ≡ record self.old { found = None } }
     {
@@ -238,61 +238,61 @@ impl Session {
     }
 
     /// The innermost line with lines still to come.
-    pub fn top(&self) -> Option<Frame>
-        ensures { result ≡ first_of self.now.frames }
+    pub fn top(&self) -> Option<Outer>
+        ensures { result ≡ first_of self.now.outers }
     {
-        self.frames.front().copied()
+        self.outers.front().copied()
     }
 
     /// What becomes of the lines under the innermost one. Lines under none are played in their place.
     pub fn top_work(&self) -> Work
-        ensures { result ≡ top_work self.now.frames }
+        ensures { result ≡ top_work self.now.outers }
     {
         match self.top() {
-            Some(frame) => frame.work,
+            Some(outer) => outer.work,
             None => Work::Beside,
         }
     }
 
     /// Whether the lines to come stand under an ask.
     pub fn is_under_ask(&self) -> bool
-        ensures { result ≡ top_under_ask self.now.frames }
+        ensures { result ≡ top_under_ask self.now.outers }
     {
         match self.top() {
-            Some(frame) => frame.under_ask,
+            Some(outer) => outer.under_ask,
             None => false,
         }
     }
 
     /// Puts a line of this level around those to come, of which nothing was played.
     pub fn push(&mut self, level: u32) -> Result<(), NoMemory>
-        ensures ok { OnOk result (self.new ≡ record self.old { frames = onto level self.old.frames }) }
+        ensures ok { OnOk result (self.new ≡ record self.old { outers = onto level self.old.outers }) }
         ensures err { OnErr result (self.new ≡ self.old) }
     {
-        let frame = Frame {
+        let outer = Outer {
             level,
             under_ask: self.is_under_ask(),
             work: Work::Passed,
         };
-        self.frames.push_front(frame)?;
+        self.outers.push_front(outer)?;
         Ok(())
     }
 
     /// Takes the innermost line off.
     pub fn pop(&mut self)
-        ensures { self.new ≡ record self.old { frames = around self.old.frames } }
+        ensures { self.new ≡ record self.old { outers = around self.old.outers } }
     {
-        self.frames.pop_front();
+        self.outers.pop_front();
     }
 
     /// Changes what becomes of the lines under the innermost one.
     pub fn set_work(&mut self, work: Work)
-        ensures { self.new ≡ record self.old { frames = with_work work self.old.frames } }
+        ensures { self.new ≡ record self.old { outers = with_work work self.old.outers } }
     {
-        if let Some(frame) = self.frames.pop_front() {
-            self.frames.push_front_reserved(Frame {
-                level: frame.level,
-                under_ask: frame.under_ask || is_ask(work),
+        if let Some(outer) = self.outers.pop_front() {
+            self.outers.push_front_reserved(Outer {
+                level: outer.level,
+                under_ask: outer.under_ask || is_ask(work),
                 work,
             });
         }
@@ -310,7 +310,7 @@ impl Session {
             tickets: _,
             answers,
             problems,
-            frames: _,
+            outers: _,
             found: _,
             closed: _,
         } = self;

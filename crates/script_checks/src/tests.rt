@@ -315,9 +315,9 @@ static REFUSED_CLIENTS: [Refused; 9] = [
 
 fn show_call(shown: &mut String, call: &Call) -> Result<(), AllocError> {
     match call {
-        Call::Reload(entries) => {
+        Call::Reload(pairs) => {
             shown.push_str("reload")?;
-            for (name, path) in entries.as_slice() {
+            for (name, path) in pairs.as_slice() {
                 let (name, path) = (name.as_str(), path.as_str());
                 write!(shown, " {name}<{path}")?;
             }

@@ -12,13 +12,13 @@ abbrev first_of : Option Bytes → Option Bytes → Option Bytes
 first_of (Some text) later = Some text
 first_of None later = later
 
-text_of-push : (sources : List (Bytes × Bytes)) (entry : Bytes × Bytes) (path : Bytes)
-    → text_of (sources ++ entry ∷ []) path ≡ first_of (text_of sources path) (cond (bytes_eq path entry.0) (Some entry.1) None)
-text_of-push [] entry path = refl
-text_of-push (source ∷ sources) entry path = by (bytes_eq path source.0) (text_of-push sources entry path)
+text_of-push : (sources : List (Bytes × Bytes)) (pair : Bytes × Bytes) (path : Bytes)
+    → text_of (sources ++ pair ∷ []) path ≡ first_of (text_of sources path) (cond (bytes_eq path pair.0) (Some pair.1) None)
+text_of-push [] pair path = refl
+text_of-push (source ∷ sources) pair path = by (bytes_eq path source.0) (text_of-push sources pair path)
   where
-    by : (b : Bool) → text_of (sources ++ entry ∷ []) path ≡ first_of (text_of sources path) (cond (bytes_eq path entry.0) (Some entry.1) None)
-        → cond b (Some source.1) (text_of (sources ++ entry ∷ []) path) ≡ first_of (cond b (Some source.1) (text_of sources path)) (cond (bytes_eq path entry.0) (Some entry.1) None)
+    by : (b : Bool) → text_of (sources ++ pair ∷ []) path ≡ first_of (text_of sources path) (cond (bytes_eq path pair.0) (Some pair.1) None)
+        → cond b (Some source.1) (text_of (sources ++ pair ∷ []) path) ≡ first_of (cond b (Some source.1) (text_of sources path)) (cond (bytes_eq path pair.0) (Some pair.1) None)
     by true rest = refl
     by false rest = rest
 
@@ -27,8 +27,8 @@ none_later None = refl
 none_later (Some text) = refl
 
 -- another path than the last one
-other_path : (before : List (Bytes × Bytes)) (entry : Bytes × Bytes) (other : Bytes) → bytes_eq other entry.0 ≡ false → text_of (before ++ entry ∷ []) other ≡ text_of before other
-other_path before entry other e = text_of-push before entry other ∙ rw e (none_later (text_of before other))
+other_path : (before : List (Bytes × Bytes)) (pair : Bytes × Bytes) (other : Bytes) → bytes_eq other pair.0 ≡ false → text_of (before ++ pair ∷ []) other ≡ text_of before other
+other_path before pair other e = text_of-push before pair other ∙ rw e (none_later (text_of before other))
 
 turned : (a b : Bytes) → bytes_eq a b ≡ true → bytes_eq b a ≡ true
 turned a b e = let same : a ≡ b = same_text a b (sym e) in subst (λ (p : Bytes). bytes_eq b p ≡ true) (sym same) (subst (λ (p : Bytes). bytes_eq p b ≡ true) same e)
@@ -45,31 +45,31 @@ none_is None h = refl
 none_is (Some text) h = absurd (false≢true (sym h))
 
 -- a new path goes last
-pub knows-new : {S : Type 0} (known known' : IndexMap Bytes Bytes S) (before : List (Bytes × Bytes)) (entry : Bytes × Bytes) → Knows known before → is_some (get bytes_eq known entry.0) ≡ false
-    → ((other : Bytes) → get bytes_eq known' other ≡ cond (bytes_eq entry.0 other) (Some entry.1) (get bytes_eq known other)) → Knows known' (before ++ entry ∷ [])
-knows-new known known' before entry knows absent updates other = updates other ∙ by (bytes_eq entry.0 other) refl
+pub knows-new : {S : Type 0} (known known' : IndexMap Bytes Bytes S) (before : List (Bytes × Bytes)) (pair : Bytes × Bytes) → Knows known before → is_some (get bytes_eq known pair.0) ≡ false
+    → ((other : Bytes) → get bytes_eq known' other ≡ cond (bytes_eq pair.0 other) (Some pair.1) (get bytes_eq known other)) → Knows known' (before ++ pair ∷ [])
+knows-new known known' before pair knows absent updates other = updates other ∙ by (bytes_eq pair.0 other) refl
   where
-    by : (t : Bool) → bytes_eq entry.0 other ≡ t → cond t (Some entry.1) (get bytes_eq known other) ≡ text_of (before ++ entry ∷ []) other
+    by : (t : Bool) → bytes_eq pair.0 other ≡ t → cond t (Some pair.1) (get bytes_eq known other) ≡ text_of (before ++ pair ∷ []) other
     by true e =
-        let same : entry.0 ≡ other = same_text entry.0 other (sym e) in
-        let none : text_of before other ≡ None = sym (knows other) ∙ subst (λ (p : Bytes). get bytes_eq known p ≡ None) same (none_is (get bytes_eq known entry.0) absent) in
-        sym (text_of-push before entry other ∙ rw (none, turned entry.0 other e) refl)
-    by false e = knows other ∙ sym (other_path before entry other (turned_false entry.0 other e))
+        let same : pair.0 ≡ other = same_text pair.0 other (sym e) in
+        let none : text_of before other ≡ None = sym (knows other) ∙ subst (λ (p : Bytes). get bytes_eq known p ≡ None) same (none_is (get bytes_eq known pair.0) absent) in
+        sym (text_of-push before pair other ∙ rw (none, turned pair.0 other e) refl)
+    by false e = knows other ∙ sym (other_path before pair other (turned_false pair.0 other e))
 
 -- a path that is known keeps its text
-pub knows-kept : {S : Type 0} (known : IndexMap Bytes Bytes S) (before : List (Bytes × Bytes)) (entry : Bytes × Bytes) → Knows known before → is_some (get bytes_eq known entry.0) ≡ true → Knows known (before ++ entry ∷ [])
-knows-kept known before entry knows present other = knows other ∙ by (bytes_eq other entry.0) refl
+pub knows-kept : {S : Type 0} (known : IndexMap Bytes Bytes S) (before : List (Bytes × Bytes)) (pair : Bytes × Bytes) → Knows known before → is_some (get bytes_eq known pair.0) ≡ true → Knows known (before ++ pair ∷ [])
+knows-kept known before pair knows present other = knows other ∙ by (bytes_eq other pair.0) refl
   where
     first_stays : (found later : Option Bytes) → is_some found ≡ true → found ≡ first_of found later
     first_stays None later h = absurd (false≢true h)
     first_stays (Some text) later h = refl
 
-    by : (t : Bool) → bytes_eq other entry.0 ≡ t → text_of before other ≡ text_of (before ++ entry ∷ []) other
+    by : (t : Bool) → bytes_eq other pair.0 ≡ t → text_of before other ≡ text_of (before ++ pair ∷ []) other
     by true e =
-        let same : entry.0 ≡ other = sym (same_text other entry.0 (sym e)) in
+        let same : pair.0 ≡ other = sym (same_text other pair.0 (sym e)) in
         let there : is_some (text_of before other) ≡ true = ap is_some (sym (knows other)) ∙ subst (λ (p : Bytes). is_some (get bytes_eq known p) ≡ true) same present in
-        first_stays (text_of before other) (cond (bytes_eq other entry.0) (Some entry.1) None) there ∙ sym (text_of-push before entry other)
-    by false e = sym (other_path before entry other e)
+        first_stays (text_of before other) (cond (bytes_eq other pair.0) (Some pair.1) None) there ∙ sym (text_of-push before pair other)
+    by false e = sym (other_path before pair other e)
 
 pub ruleset known_rules = (knows-new, knows-kept)
 

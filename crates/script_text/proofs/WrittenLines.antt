@@ -108,13 +108,13 @@ lack-names (name ∷ names) h =
     let named : lacks 32 name ≡ true = lacks-name name (left_of_both (is_name name) (list_all is_name names) h) in
     rw named (lack-names names (right_of_both _ _ h))
 
-lack-pairs : (names : List Bytes) (entries : List (Bytes × Bytes)) → are_pairs names entries ≡ true → list_all (lacks 32) (pair_words entries) ≡ true
+lack-pairs : (names : List Bytes) (pairs : List (Bytes × Bytes)) → are_pairs names pairs ≡ true → list_all (lacks 32) (pair_words pairs) ≡ true
 lack-pairs names [] h = refl
-lack-pairs names (entry ∷ entries) h =
-    let both : (is_name entry.0 && is_word entry.1) ≡ true = left_of_both _ _ (left_of_both _ _ h) in
-    let name : lacks 32 entry.0 ≡ true = lacks-name entry.0 (left_of_both (is_name entry.0) (is_word entry.1) both) in
-    let path : lacks 32 entry.1 ≡ true = lacks-word entry.1 (right_of_both (is_name entry.0) (is_word entry.1) both) in
-    rw (name, path) (lack-pairs (names ++ entry.0 ∷ []) entries (right_of_both _ _ h))
+lack-pairs names (pair ∷ pairs) h =
+    let both : (is_name pair.0 && is_word pair.1) ≡ true = left_of_both _ _ (left_of_both _ _ h) in
+    let name : lacks 32 pair.0 ≡ true = lacks-name pair.0 (left_of_both (is_name pair.0) (is_word pair.1) both) in
+    let path : lacks 32 pair.1 ≡ true = lacks-word pair.1 (right_of_both (is_name pair.0) (is_word pair.1) both) in
+    rw (name, path) (lack-pairs (names ++ pair.0 ∷ []) pairs (right_of_both _ _ h))
 
 lack-offset : (name : Bytes) (n : ℕ) → (is_name name && is_number n) ≡ true → list_all (lacks 32) (name ∷ decimal n ∷ []) ≡ true
 lack-offset name n h =
@@ -129,7 +129,7 @@ lack-number : (n : ℕ) → is_number n ≡ true → list_all (lacks 32) (decima
 lack-number n h = let digits : lacks 32 (decimal n) ≡ true = lacks-decimal 32 n (omega arith) h in rw digits refl
 
 order_lacks : (made : Order) → is_written made ≡ true → list_all (lacks 32) (order_words made) ≡ true
-order_lacks (order.Call (Reload entries)) h = lack-pairs [] entries (right_of_both _ _ h)
+order_lacks (order.Call (Reload pairs)) h = lack-pairs [] pairs (right_of_both _ _ h)
 order_lacks (order.Call (Remove names)) h = lack-names names (right_of_both _ _ h)
 order_lacks (order.Call (TypeAt name n)) h = lack-offset name n h
 order_lacks (order.Call (MembersAt name n)) h = lack-offset name n h
@@ -154,7 +154,7 @@ record Begins (words : List Bytes) : Type 0 where
   shown : (byte == 35) ≡ false
 
 order_begins : (made : Order) → Begins (order_words made)
-order_begins (order.Call (Reload entries)) = record { byte = 114; bytes = codes "eload"; more = pair_words entries; is = refl; other = refl; shown = refl }
+order_begins (order.Call (Reload pairs)) = record { byte = 114; bytes = codes "eload"; more = pair_words pairs; is = refl; other = refl; shown = refl }
 order_begins (order.Call (Remove names)) = record { byte = 114; bytes = codes "emove"; more = names; is = refl; other = refl; shown = refl }
 order_begins (order.Call (TypeAt name n)) = record { byte = 116; bytes = codes "ype"; more = name ∷ decimal n ∷ []; is = refl; other = refl; shown = refl }
 order_begins (order.Call (MembersAt name n)) = record { byte = 109; bytes = codes "embers"; more = name ∷ decimal n ∷ []; is = refl; other = refl; shown = refl }

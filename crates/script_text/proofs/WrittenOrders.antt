@@ -129,31 +129,31 @@ name_and_offset_is (first ∷ second ∷ third ∷ rest) found h = not_some foun
 
 -- ---- pairs
 
-record ArePairs (names : List Bytes) (entries : List (Bytes × Bytes)) (words : List Bytes) (all : List (Bytes × Bytes)) : Type 0 where
+record ArePairs (names : List Bytes) (pairs : List (Bytes × Bytes)) (words : List Bytes) (all : List (Bytes × Bytes)) : Type 0 where
   more : List (Bytes × Bytes)
-  whole : all ≡ entries ++ more
+  whole : all ≡ pairs ++ more
   same : words ≡ pair_words more
-  pairs : are_pairs names more ≡ true
+  apart : are_pairs names more ≡ true
 
-pairs_are : (names : List Bytes) (entries : List (Bytes × Bytes)) (words : List Bytes) (all : List (Bytes × Bytes)) → pairs_from names entries words ≡ Some all → ArePairs names entries words all
-pairs_are names entries [] all h = record { more = []; whole = sym (same_some entries all h) ∙ sym (append-nil entries); same = refl; pairs = refl }
-pairs_are names entries (name ∷ []) all h = not_some all h
-pairs_are names entries (name ∷ path ∷ words) all h =
-    let tested = tested_of (is_next_pair names name path) (pairs_from (names ++ name ∷ []) (entries ++ (name, path) ∷ []) words) all h in
-    let rest = pairs_are (names ++ name ∷ []) (entries ++ (name, path) ∷ []) words all tested.is in
+pairs_are : (names : List Bytes) (pairs : List (Bytes × Bytes)) (words : List Bytes) (all : List (Bytes × Bytes)) → pairs_from names pairs words ≡ Some all → ArePairs names pairs words all
+pairs_are names pairs [] all h = record { more = []; whole = sym (same_some pairs all h) ∙ sym (append-nil pairs); same = refl; apart = refl }
+pairs_are names pairs (name ∷ []) all h = not_some all h
+pairs_are names pairs (name ∷ path ∷ words) all h =
+    let tested = tested_of (is_next_pair names name path) (pairs_from (names ++ name ∷ []) (pairs ++ (name, path) ∷ []) words) all h in
+    let rest = pairs_are (names ++ name ∷ []) (pairs ++ (name, path) ∷ []) words all tested.is in
     record {
       more = (name, path) ∷ rest.more;
-      whole = rest.whole ∙ append_assoc entries ((name, path) ∷ []) rest.more;
+      whole = rest.whole ∙ append_assoc pairs ((name, path) ∷ []) rest.more;
       same = ap (λ w. name ∷ path ∷ w) rest.same;
-      pairs = both_true _ _ tested.passed rest.pairs;
+      apart = both_true _ _ tested.passed rest.apart;
     }
 
-pairs_of : (names : List Bytes) (entries more : List (Bytes × Bytes)) → are_pairs names more ≡ true → pairs_from names entries (pair_words more) ≡ Some (entries ++ more)
-pairs_of names entries [] h = ap Some (sym (append-nil entries))
-pairs_of names entries (entry ∷ more) h =
-    let here : is_next_pair names entry.0 entry.1 ≡ true = left_of_both _ _ h in
-    rw here (pairs_of (names ++ entry.0 ∷ []) (entries ++ (entry.0, entry.1) ∷ []) more (right_of_both _ _ h)
-    ∙ ap Some (append_assoc entries (entry ∷ []) more))
+pairs_of : (names : List Bytes) (pairs more : List (Bytes × Bytes)) → are_pairs names more ≡ true → pairs_from names pairs (pair_words more) ≡ Some (pairs ++ more)
+pairs_of names pairs [] h = ap Some (sym (append-nil pairs))
+pairs_of names pairs (pair ∷ more) h =
+    let here : is_next_pair names pair.0 pair.1 ≡ true = left_of_both _ _ h in
+    rw here (pairs_of (names ++ pair.0 ∷ []) (pairs ++ (pair.0, pair.1) ∷ []) more (right_of_both _ _ h)
+    ∙ ap Some (append_assoc pairs (pair ∷ []) more))
 
 -- ---- names
 
@@ -180,14 +180,14 @@ pub record IsOrder (words : List Bytes) (made : Order) : Type 0 where
 reload_is : (words : List Bytes) (made : Order) → reload_of words ≡ Some made → IsOrder (codes "reload" ∷ words) made
 reload_is [] made h = not_some made h
 reload_is (first ∷ words) made h =
-    let found = made_of (λ entries. order.Call (Reload entries)) (pairs_from [] [] (first ∷ words)) made h in
-    let pairs = pairs_are [] [] (first ∷ words) found.of found.here in
-    subst (λ (o : Order). IsOrder (codes "reload" ∷ first ∷ words) o) (sym (found.is ∙ ap (λ e. order.Call (Reload e)) pairs.whole))
-    (some pairs.more pairs.same pairs.pairs)
+    let found = made_of (λ pairs. order.Call (Reload pairs)) (pairs_from [] [] (first ∷ words)) made h in
+    let all = pairs_are [] [] (first ∷ words) found.of found.here in
+    subst (λ (o : Order). IsOrder (codes "reload" ∷ first ∷ words) o) (sym (found.is ∙ ap (λ e. order.Call (Reload e)) all.whole))
+    (some all.more all.same all.apart)
   where
-    some : (entries : List (Bytes × Bytes)) → first ∷ words ≡ pair_words entries → are_pairs [] entries ≡ true → IsOrder (codes "reload" ∷ first ∷ words) (order.Call (Reload entries))
-    some [] same pairs = absurd (cc)
-    some (entry ∷ entries) same pairs = record { same = ap (λ w. codes "reload" ∷ w) same; written = pairs }
+    some : (pairs : List (Bytes × Bytes)) → first ∷ words ≡ pair_words pairs → are_pairs [] pairs ≡ true → IsOrder (codes "reload" ∷ first ∷ words) (order.Call (Reload pairs))
+    some [] same apart = absurd (cc)
+    some (pair ∷ pairs) same apart = record { same = ap (λ w. codes "reload" ∷ w) same; written = apart }
 
 remove_is : (words : List Bytes) (made : Order) → remove_of words ≡ Some made → IsOrder (codes "remove" ∷ words) made
 remove_is [] made h = not_some made h
@@ -266,7 +266,7 @@ name_read name h = rw h refl
 -- an order that is rightly written is read from its words
 pub order_from-words : (made : Order) → is_written made ≡ true → order_from (order_words made) ≡ Some made
 order_from-words (order.Call (Reload [])) h = absurd (false≢true h)
-order_from-words (order.Call (Reload (entry ∷ entries))) h = ap (λ o. option_map (λ e. order.Call (Reload e)) o) (pairs_of [] [] (entry ∷ entries) h)
+order_from-words (order.Call (Reload (pair ∷ pairs))) h = ap (λ o. option_map (λ e. order.Call (Reload e)) o) (pairs_of [] [] (pair ∷ pairs) h)
 order_from-words (order.Call (Remove [])) h = absurd (false≢true h)
 order_from-words (order.Call (Remove (name ∷ names))) h = ap (λ o. option_map (λ n. order.Call (Remove n)) o) (names_of [] (name ∷ names) h)
 order_from-words (order.Call (TypeAt name n)) h = ap (λ o. option_map (λ found. order.Call (TypeAt found.0 found.1)) o) (offset_read name n h)

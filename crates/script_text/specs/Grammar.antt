@@ -11,7 +11,7 @@ pub record IsLineAt (script : ScriptKind) (above : List Line) (line : Line) (byt
   pub text : bytes ≡ line_text (holder_at above line.level) line
   pub stands : may_stand script above line ≡ true
 
--- Behind the lines above, these lines of bytes say lines, with which all are these.
+-- After the lines above, these lines of bytes say lines, with which all are these.
 abbrev pub AreLines : ScriptKind → List Line → List Bytes → List Line → Type 0
 AreLines script above [] all = all ≡ above
 AreLines script above (bytes ∷ more) all =

@@ -19,7 +19,7 @@ use Rattle.script_text.specs.Standing.{numbers_in}
 -- NAME PATH NAME PATH ..
 abbrev pub pair_words : List (Bytes × Bytes) → List Bytes
 pair_words [] = []
-pair_words (entry ∷ entries) = entry.0 ∷ entry.1 ∷ pair_words entries
+pair_words (pair ∷ pairs) = pair.0 ∷ pair.1 ∷ pair_words pairs
 
 abbrev pub offset_words : Option ℕ → List Bytes
 offset_words None = []
@@ -27,7 +27,7 @@ offset_words (Some offset) = decimal offset ∷ []
 
 -- The text of a reloaded file stands for its path here.
 abbrev pub call_words : Call → List Bytes
-call_words (Reload entries) = codes "reload" ∷ pair_words entries
+call_words (Reload pairs) = codes "reload" ∷ pair_words pairs
 call_words (Remove names) = codes "remove" ∷ names
 call_words ask = (asked ask).word ∷ (asked ask).file ∷ offset_words (asked ask).offset
 

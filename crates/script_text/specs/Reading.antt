@@ -30,12 +30,12 @@ abbrev pub exactly_two : List Bytes → Option (Bytes × Bytes)
 exactly_two (first ∷ second ∷ []) = Some (first, second)
 exactly_two _ = None
 
--- the pairs that these words give, after these names and entries
+-- the pairs that these words give, after these names and pairs
 abbrev pub pairs_from : List Bytes → List (Bytes × Bytes) → List Bytes → Option (List (Bytes × Bytes))
-pairs_from names entries [] = Some entries
-pairs_from names entries (name ∷ []) = None
-pairs_from names entries (name ∷ path ∷ words) =
-    if is_next_pair names name path then pairs_from (names ++ name ∷ []) (entries ++ (name, path) ∷ []) words else None
+pairs_from names pairs [] = Some pairs
+pairs_from names pairs (name ∷ []) = None
+pairs_from names pairs (name ∷ path ∷ words) =
+    if is_next_pair names name path then pairs_from (names ++ name ∷ []) (pairs ++ (name, path) ∷ []) words else None
 
 -- the names that these words give, after these
 abbrev pub names_from : List Bytes → List Bytes → Option (List Bytes)
@@ -43,7 +43,7 @@ names_from names [] = Some names
 names_from names (name ∷ words) = if is_name name then names_from (names ++ name ∷ []) words else None
 
 abbrev pub reload_of : List Bytes → Option Order
-reload_of words = if is_some_list words then option_map (λ entries. order.Call (Reload entries)) (pairs_from [] [] words) else None
+reload_of words = if is_some_list words then option_map (λ pairs. order.Call (Reload pairs)) (pairs_from [] [] words) else None
 
 abbrev pub remove_of : List Bytes → Option Order
 remove_of words = if is_some_list words then option_map (λ names. order.Call (Remove names)) (names_from [] words) else None

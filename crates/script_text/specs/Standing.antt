@@ -105,7 +105,7 @@ is_next_pair names name path = is_name name && is_word path && not (list_any (by
 -- pairs of distinct names and of paths, after these names
 abbrev pub are_pairs : List Bytes → List (Bytes × Bytes) → Bool
 are_pairs names [] = true
-are_pairs names (entry ∷ entries) = is_next_pair names entry.0 entry.1 && are_pairs (names ++ entry.0 ∷ []) entries
+are_pairs names (pair ∷ pairs) = is_next_pair names pair.0 pair.1 && are_pairs (names ++ pair.0 ∷ []) pairs
 
 abbrev pub is_some_list : {A : Type 0} → List A → Bool
 is_some_list [] = false
@@ -116,7 +116,7 @@ is_written_offset None = true
 is_written_offset (Some offset) = is_number offset
 
 abbrev pub is_written_call : Call → Bool
-is_written_call (Reload entries) = is_some_list entries && are_pairs [] entries
+is_written_call (Reload pairs) = is_some_list pairs && are_pairs [] pairs
 is_written_call (Remove names) = is_some_list names && list_all is_name names
 is_written_call ask = is_name (asked ask).file && is_written_offset (asked ask).offset
 

@@ -13,11 +13,11 @@ use Rattle.script_text.specs.Words.{Bytes}
 abbrev pub text_at : List (Bytes × Bytes) → Bytes → Bytes
 text_at sources path = unwrap_or (text_of sources path) path
 
-abbrev pub entry_with : List (Bytes × Bytes) → Bytes × Bytes → Bytes × Bytes
-entry_with sources entry = (entry.0, text_at sources entry.1)
+abbrev pub pair_with : List (Bytes × Bytes) → Bytes × Bytes → Bytes × Bytes
+pair_with sources pair = (pair.0, text_at sources pair.1)
 
 abbrev pub call_with : List (Bytes × Bytes) → Call → Call
-call_with sources (Reload entries) = Reload (map (entry_with sources) entries)
+call_with sources (Reload pairs) = Reload (map (pair_with sources) pairs)
 call_with sources call = call
 
 abbrev pub order_with : List (Bytes × Bytes) → Order → Order

@@ -115,11 +115,11 @@ fn name_and_offset(alloc: Global, left: Option<&[u8]>) -> Result<Option<(Text, u
 fn take_pair(
     alloc: Global,
     names: &mut IndexSet<Text>,
-    entries: &mut Row<(Text, Text)>,
+    pairs: &mut Row<(Text, Text)>,
     name: &[u8],
     path: &[u8],
 ) -> Result<bool, NoMemory>
-    ensures { IfOk result (TakesPair names.old.keys entries.old name.now path.now names.new.keys entries.new) }
+    ensures { IfOk result (TakesPair names.old.keys pairs.old name.now path.now names.new.keys pairs.new) }
 {
     if !is_name(name) || !is_word(path) {
         return Ok(false);
@@ -127,7 +127,7 @@ fn take_pair(
     let name = name_text(alloc, name)?;
     let (_, is_new) = names.insert_full(name.clone()?)?;
     if is_new {
-        entries.push((name, word_text(alloc, path)?))?;
+        pairs.push((name, word_text(alloc, path)?))?;
     }
     Ok(is_new)
 }
@@ -138,7 +138,7 @@ fn pairs_of(alloc: Global, words: &[u8]) -> Result<Option<Pairs>, NoMemory>
     ensures { IfOk result (λ found. found ≡ spec.pairs_from [] [] (spec.words_of words.now)) }
 {
     let mut names = IndexSet::new(alloc);
-    let mut entries = Row::new(alloc);
+    let mut pairs = Row::new(alloc);
     let mut left = Some(words);
     while let Some(rest) = left {
         let (name, behind) = cut(rest, b' ');
@@ -146,12 +146,12 @@ fn pairs_of(alloc: Global, words: &[u8]) -> Result<Option<Pairs>, NoMemory>
             return Ok(None);
         };
         let (path, behind) = cut(behind, b' ');
-        if !take_pair(alloc, &mut names, &mut entries, name, path)? {
+        if !take_pair(alloc, &mut names, &mut pairs, name, path)? {
             return Ok(None);
         }
         left = behind;
     }
-    Ok(Some(entries))
+    Ok(Some(pairs))
 }
 
 fn names_of(alloc: Global, words: &[u8]) -> Result<Option<Row<Text>>, NoMemory>
@@ -175,9 +175,7 @@ fn reload_of(alloc: Global, left: Option<&[u8]>) -> Result<Option<Order>, NoMemo
     ensures { IfOk result (λ found. found ≡ spec.reload_of (pieces_behind space (option_copied left.entry))) }
 {
     match left {
-        Some(words) => {
-            Ok(pairs_of(alloc, words)?.map(|entries| Order::Call(Call::Reload(entries))))
-        }
+        Some(words) => { Ok(pairs_of(alloc, words)?.map(|pairs| Order::Call(Call::Reload(pairs)))) }
         None => Ok(None),
     }
 }

@@ -48,17 +48,17 @@ fn text_at(
     }
 }
 
-fn entries_with(
+fn pairs_with(
     alloc: Global,
     known: &IndexMap<Text, Text>,
     sources: &[(Text, Text)],
-    entries: Row<(Text, Text)>,
+    pairs: Row<(Text, Text)>,
 ) -> Result<Row<(Text, Text)>, NoMemory>
     requires { Knows known.now sources.now }
-    ensures { IfOk result (λ with_texts. with_texts ≡ map (spec.entry_with sources.now) entries) }
+    ensures { IfOk result (λ with_texts. with_texts ≡ map (spec.pair_with sources.now) pairs) }
 {
     let mut with_texts = Row::new(alloc);
-    for (name, path) in entries.into_vec() {
+    for (name, path) in pairs.into_vec() {
         with_texts.push((name, text_at(known, sources, path)?))?;
     }
     Ok(with_texts)
@@ -80,8 +80,8 @@ fn line_with(
         order,
     } = line;
     let order = match order {
-        Order::Call(Call::Reload(entries)) => {
-            Order::Call(Call::Reload(entries_with(alloc, known, sources, entries)?))
+        Order::Call(Call::Reload(pairs)) => {
+            Order::Call(Call::Reload(pairs_with(alloc, known, sources, pairs)?))
         }
         other => other,
     };

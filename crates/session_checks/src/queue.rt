@@ -33,9 +33,9 @@ fn reload(alloc: Global, name: &str, text: &str) -> Result<Call, NoMemory>
     ensures few { IfOk result (λ call. length (reloaded_by call) ≤ 1) }
     ensures names { IfOk result (λ call. has_file_names call ≡ true) }
 {
-    let mut entries = Row::new(alloc);
-    entries.push((Text::new(alloc, name)?, Text::new(alloc, text)?))?;
-    Ok(Call::Reload(entries))
+    let mut pairs = Row::new(alloc);
+    pairs.push((Text::new(alloc, name)?, Text::new(alloc, text)?))?;
+    Ok(Call::Reload(pairs))
 }
 
 fn type_at(alloc: Global, name: &str, offset: u32) -> Result<Call, NoMemory>
@@ -46,7 +46,7 @@ fn type_at(alloc: Global, name: &str, offset: u32) -> Result<Call, NoMemory>
     Ok(Call::TypeAt(Text::new(alloc, name)?, offset))
 }
 
-/// An event in words, before its ticket and behind it.
+/// An event in words, before its ticket and after it.
 fn words_of(event: &Event) -> (&'static str, Option<u64>, &'static str) {
     match event {
         Event::Accept { ticket, .. } => ("accept", Some(*ticket), ""),

@@ -13,7 +13,7 @@ use Rattle.ask_history.specs.declared.script.Order.{Order}
 use Rattle.ask_history.specs.declared.script.Order.TheVariants as order
 use Rattle.ask_history.specs.declared.script.Line.{Line}
 use Rattle.script_text.specs.Standing.{is_call_line}
-use Rattle.script_text.specs.Texts.{text_at, entry_with, order_with, line_with}
+use Rattle.script_text.specs.Texts.{text_at, pair_with, order_with, line_with}
 use Rattle.work_queue.specs.declared.usage.Usage.{Usage}
 use Rattle.work_queue.specs.Reloads.{usage_of, with_text}
 use Rattle.work_queue.proofs.Usages.{usage_of-push, longest-update}
@@ -58,19 +58,19 @@ room-one usage most len texts small room = by (is_some most) where
   by true = record { text = omega (arith, room.text); names = omega (arith, room.names); map = omega (arith, room.map) }
   by false = record { text = omega (arith, room.text); names = omega (arith, room.names); map = omega (arith, room.map) }
 
-pub counted-one : {before : List (Bytes × Bytes)} {old new : Counts} (entry : Bytes × Bytes) → AreCounted before old
-    → new.usage ≡ with_text old.usage (get bytes_eq old.longest entry.0) (length entry.1)
-    → ((name : Bytes) → get bytes_eq new.longest name ≡ update bytes_eq (get bytes_eq old.longest) entry.0 (Some (max (unwrap_or (get bytes_eq old.longest entry.0) 0) (length entry.1))) name)
-    → AreCounted (before ++ entry ∷ []) new
-counted-one {before = before} {old = old} entry are usage updates = record {
-  usage = usage ∙ (λ i. with_text (are.usage i) (are.longest entry.0 i) (length entry.1)) ∙ sym (usage_of-push before entry);
-  longest = λ name. updates name ∙ longest-update before entry (get bytes_eq old.longest) are.longest name;
+pub counted-one : {before : List (Bytes × Bytes)} {old new : Counts} (pair : Bytes × Bytes) → AreCounted before old
+    → new.usage ≡ with_text old.usage (get bytes_eq old.longest pair.0) (length pair.1)
+    → ((name : Bytes) → get bytes_eq new.longest name ≡ update bytes_eq (get bytes_eq old.longest) pair.0 (Some (max (unwrap_or (get bytes_eq old.longest pair.0) 0) (length pair.1))) name)
+    → AreCounted (before ++ pair ∷ []) new
+counted-one {before = before} {old = old} pair are usage updates = record {
+  usage = usage ∙ (λ i. with_text (are.usage i) (are.longest pair.0 i) (length pair.1)) ∙ sym (usage_of-push before pair);
+  longest = λ name. updates name ∙ longest-update before pair (get bytes_eq old.longest) are.longest name;
 }
 
 -- ---- lines with their texts
 
-pub pairs_of-with : (sources : Sources) (o : Order) → pairs_of (order_with sources o) ≡ map (entry_with sources) (pairs_of o)
-pairs_of-with sources (order.Call (Reload entries)) = refl
+pub pairs_of-with : (sources : Sources) (o : Order) → pairs_of (order_with sources o) ≡ map (pair_with sources) (pairs_of o)
+pairs_of-with sources (order.Call (Reload pairs)) = refl
 pairs_of-with sources (order.Call (Remove names)) = refl
 pairs_of-with sources (order.Call (TypeAt name offset)) = refl
 pairs_of-with sources (order.Call (MembersAt name offset)) = refl
@@ -83,10 +83,10 @@ pairs_of-with sources order.Close = refl
 pairs_of-with sources (order.Wait k) = refl
 pairs_of-with sources order.Idle = refl
 
-pub pairs_in-with : (sources : Sources) (lines : List Line) → pairs_in (map (line_with sources) lines) ≡ map (entry_with sources) (pairs_in lines)
+pub pairs_in-with : (sources : Sources) (lines : List Line) → pairs_in (map (line_with sources) lines) ≡ map (pair_with sources) (pairs_in lines)
 pairs_in-with sources [] = refl
 pairs_in-with sources (line ∷ lines) =
-    (λ i. pairs_of-with sources line.order i ++ pairs_in-with sources lines i) ∙ sym (map-append (entry_with sources) (pairs_of line.order) (pairs_in lines))
+    (λ i. pairs_of-with sources line.order i ++ pairs_in-with sources lines i) ∙ sym (map-append (pair_with sources) (pairs_of line.order) (pairs_in lines))
 
 call_line-with : (sources : Sources) (line : Line) → is_call_line (line_with sources line) ≡ is_call_line line
 call_line-with sources line = by line.order where

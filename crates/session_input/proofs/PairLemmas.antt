@@ -8,7 +8,7 @@ use Rattle.std.proofs.lemmas.List.Concat.{flat_map-append}
 use Rattle.pc_terms.specs.Bytes.{Bytes, space, line_feed, less_sign}
 use Rattle.ask_history.specs.Engine.{is_file_name}
 use Rattle.script_text.proofs.WordLemmas.{left_of_both, right_of_both}
-use Rattle.script_text.specs.Texts.{entry_with, order_with, line_with}
+use Rattle.script_text.specs.Texts.{pair_with, order_with, line_with}
 use Rattle.session_input.proofs.CountLemmas.{pairs_in-with}
 use Rattle.ask_history.specs.declared.calls.Call.TheVariants.{Reload, Remove, TypeAt, MembersAt, ScopeAt, LinkAt, Structure, LoadedTyped}
 use Rattle.ask_history.specs.declared.script.Order.{Order}
@@ -24,12 +24,12 @@ use Rattle.session_input.specs.Sources.{pairs_of, pairs_in, order_names_files, n
 
 -- ---- the words of a line
 
-pair_words-length : (entries : List (Bytes × Bytes)) → length entries ≤ length (pair_words entries)
+pair_words-length : (pairs : List (Bytes × Bytes)) → length pairs ≤ length (pair_words pairs)
 pair_words-length [] = omega arith
-pair_words-length (entry ∷ entries) = omega (arith, pair_words-length entries)
+pair_words-length (pair ∷ pairs) = omega (arith, pair_words-length pairs)
 
 pairs_words : (order : Order) → length (pairs_of order) < length (order_words order)
-pairs_words (order.Call (Reload entries)) = omega (arith, pair_words-length entries)
+pairs_words (order.Call (Reload pairs)) = omega (arith, pair_words-length pairs)
 pairs_words (order.Call (Remove names)) = omega arith
 pairs_words (order.Call (TypeAt name offset)) = omega arith
 pairs_words (order.Call (MembersAt name offset)) = omega arith
@@ -119,16 +119,16 @@ all_names [] h = refl
 all_names (name ∷ names) h =
     (λ i. name_of_file name (left_of_both (is_name name) (list_all is_name names) h) i && all_names names (right_of_both (is_name name) (list_all is_name names) h) i)
 
-pair_names : (before : List Bytes) (entries : List (Bytes × Bytes)) → are_pairs before entries ≡ true → list_all (λ entry. is_file_name entry.0) entries ≡ true
+pair_names : (before : List Bytes) (pairs : List (Bytes × Bytes)) → are_pairs before pairs ≡ true → list_all (λ pair. is_file_name pair.0) pairs ≡ true
 pair_names before [] h = refl
-pair_names before (entry ∷ entries) h =
-    let first = left_of_both (is_next_pair before entry.0 entry.1) (are_pairs (before ++ entry.0 ∷ []) entries) h in
-    let rest = right_of_both (is_next_pair before entry.0 entry.1) (are_pairs (before ++ entry.0 ∷ []) entries) h in
-    let name = left_of_both (is_name entry.0) (is_word entry.1) (left_of_both (is_name entry.0 && is_word entry.1) (not (list_any (bytes_eq entry.0) before)) first) in
-    (λ i. name_of_file entry.0 name i && pair_names (before ++ entry.0 ∷ []) entries rest i)
+pair_names before (pair ∷ pairs) h =
+    let first = left_of_both (is_next_pair before pair.0 pair.1) (are_pairs (before ++ pair.0 ∷ []) pairs) h in
+    let rest = right_of_both (is_next_pair before pair.0 pair.1) (are_pairs (before ++ pair.0 ∷ []) pairs) h in
+    let name = left_of_both (is_name pair.0) (is_word pair.1) (left_of_both (is_name pair.0 && is_word pair.1) (not (list_any (bytes_eq pair.0) before)) first) in
+    (λ i. name_of_file pair.0 name i && pair_names (before ++ pair.0 ∷ []) pairs rest i)
 
 written_names : (o : Order) → is_written o ≡ true → order_names_files o ≡ true
-written_names (order.Call (Reload entries)) h = pair_names [] entries (right_of_both (is_some_list entries) (are_pairs [] entries) h)
+written_names (order.Call (Reload pairs)) h = pair_names [] pairs (right_of_both (is_some_list pairs) (are_pairs [] pairs) h)
 written_names (order.Call (Remove names)) h = all_names names (right_of_both (is_some_list names) (list_all is_name names) h)
 written_names (order.Call (TypeAt name offset)) h = name_of_file name (left_of_both (is_name name) (is_number offset) h)
 written_names (order.Call (MembersAt name offset)) h = name_of_file name (left_of_both (is_name name) (is_number offset) h)
@@ -163,12 +163,12 @@ pub ruleset script_rules = (pairs_in_script, names_script)
 
 -- ---- with their texts lines name the same files, and as many
 
-pair_names-with : (sources entries : List (Bytes × Bytes)) → list_all (λ entry. is_file_name entry.0) (map (entry_with sources) entries) ≡ list_all (λ entry. is_file_name entry.0) entries
+pair_names-with : (sources pairs : List (Bytes × Bytes)) → list_all (λ pair. is_file_name pair.0) (map (pair_with sources) pairs) ≡ list_all (λ pair. is_file_name pair.0) pairs
 pair_names-with sources [] = refl
-pair_names-with sources (entry ∷ entries) = ap (λ b. is_file_name entry.0 && b) (pair_names-with sources entries)
+pair_names-with sources (pair ∷ pairs) = ap (λ b. is_file_name pair.0 && b) (pair_names-with sources pairs)
 
 order_names-with : (sources : List (Bytes × Bytes)) (o : Order) → order_names_files (order_with sources o) ≡ order_names_files o
-order_names-with sources (order.Call (Reload entries)) = pair_names-with sources entries
+order_names-with sources (order.Call (Reload pairs)) = pair_names-with sources pairs
 order_names-with sources (order.Call (Remove names)) = refl
 order_names-with sources (order.Call (TypeAt name offset)) = refl
 order_names-with sources (order.Call (MembersAt name offset)) = refl
@@ -190,6 +190,6 @@ found_names sources lines found same = ap (list_all names_files) same ∙ names-
 
 pub found_few : (sources : List (Bytes × Bytes)) (lines found : List Line) → found ≡ map (line_with sources) lines → length (pairs_in found) ≤ length (pairs_in lines)
 found_few sources lines found same =
-    let e : length (pairs_in found) ≡ length (pairs_in lines) = ap (λ ls. length (pairs_in ls)) same ∙ ap length (pairs_in-with sources lines) ∙ length-map (pairs_in lines) (entry_with sources) in omega arith
+    let e : length (pairs_in found) ≡ length (pairs_in lines) = ap (λ ls. length (pairs_in ls)) same ∙ ap length (pairs_in-with sources lines) ∙ length-map (pairs_in lines) (pair_with sources) in omega arith
 
 pub ruleset text_rules = (found_names, found_few)

@@ -7,7 +7,7 @@ use Rattle.ask_history.specs.Sources.{Sources}
 use Rattle.ask_history.specs.declared.script.Line.{Line}
 use Rattle.ask_history.specs.declared.script.Script.{Script}
 use Rattle.script_text.specs.Standing.{is_call_line}
-use Rattle.script_text.specs.Texts.{entry_with, line_with, script_with}
+use Rattle.script_text.specs.Texts.{pair_with, line_with, script_with}
 use Rattle.script_text.proofs.TextLemmas.{take_one_more}
 use Rattle.session_input.specs.Sources.{pairs_of, pairs_in, lines_in}
 use Rattle.session_input.proofs.CountLemmas.{pairs_in-with, calls-with}
@@ -76,7 +76,7 @@ lines_in-with sources [] = refl
 lines_in-with sources (script ∷ scripts) =
     ap (λ ls. map (line_with sources) script.lines ++ ls) (lines_in-with sources scripts) ∙ sym (map-append (line_with sources) script.lines (lines_in scripts))
 
-pub pairs_in_scripts-with : (sources : Sources) (scripts : List Script) → pairs_in (lines_in (map (script_with sources) scripts)) ≡ map (entry_with sources) (pairs_in (lines_in scripts))
+pub pairs_in_scripts-with : (sources : Sources) (scripts : List Script) → pairs_in (lines_in (map (script_with sources) scripts)) ≡ map (pair_with sources) (pairs_in (lines_in scripts))
 pairs_in_scripts-with sources scripts = ap pairs_in (lines_in-with sources scripts) ∙ pairs_in-with sources (lines_in scripts)
 
 pub all_calls-with : (sources : Sources) (scripts : List Script) → count_by is_call_line (lines_in (map (script_with sources) scripts)) ≡ count_by is_call_line (lines_in scripts)

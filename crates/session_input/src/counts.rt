@@ -2,7 +2,7 @@
 
 ghost use Rattle.std.specs.Prelude.{◌≡◌, ◌≤◌, ◌<◌, ◌^◌, ◌∷◌, [], length, map, count_by, OnOk, IfOk};
 ghost use Rattle.script_text.specs.Standing.{is_call_line};
-ghost use Rattle.script_text.specs.Texts.{text_at, entry_with, line_with, script_with};
+ghost use Rattle.script_text.specs.Texts.{text_at, pair_with, line_with, script_with};
 ghost use Rattle.session_input.specs.Counts.{AreCounted, HasRoom, CountsMore, HaveTexts, most_pairs};
 ghost use Rattle.session_input.specs.Counts as spec;
 ghost use Rattle.session_input.specs.Limits as limits;
@@ -42,7 +42,7 @@ fn count_pair(
 ) -> Result<(), NoMemory>
     requires room { HasRoom 1 counts.old.usage }
     requires texts { HaveTexts sources.now.entries (pair.now ∷ []) }
-    ensures { OnOk result (CountsMore (entry_with sources.now.entries pair.now ∷ []) counts.old counts.new) }
+    ensures { OnOk result (CountsMore (pair_with sources.now.entries pair.now ∷ []) counts.old counts.new) }
 {
     let (name, path) = pair;
     let len = text_len(sources, path) as u64;
@@ -61,7 +61,7 @@ fn count_pairs(
 ) -> Result<(), NoMemory>
     requires room { HasRoom (length pairs.now) counts.old.usage }
     requires texts { HaveTexts sources.now.entries pairs.now }
-    ensures { OnOk result (CountsMore (map (entry_with sources.now.entries) pairs.now) counts.old counts.new) }
+    ensures { OnOk result (CountsMore (map (pair_with sources.now.entries) pairs.now) counts.old counts.new) }
 {
     for pair in pairs {
         count_pair(counts, sources, pair)?;
@@ -76,7 +76,7 @@ fn count_lines(
 ) -> Result<(), NoMemory>
     requires room { HasRoom (length (pairs_in lines.now)) counts.old.usage }
     requires texts { HaveTexts sources.now.entries (pairs_in lines.now) }
-    ensures { OnOk result (CountsMore (map (entry_with sources.now.entries) (pairs_in lines.now)) counts.old counts.new) }
+    ensures { OnOk result (CountsMore (map (pair_with sources.now.entries) (pairs_in lines.now)) counts.old counts.new) }
 {
     for line in lines {
         count_pairs(counts, sources, pairs_of(&line.order))?;

@@ -27,7 +27,7 @@ use Rattle.session_run.specs.declared.ending.Ending.TheVariants as ending
 use Rattle.session_run.specs.declared.modes.Mode.TheVariants.{Alone}
 
 -- what is handed back of a run
-pub record Outcome : Type 0 where
+pub record HandedBack : Type 0 where
   pub status : ℕ
   pub ending : Ending
   pub journal : List Event
@@ -106,9 +106,9 @@ pub record IsRun (answer_of : Sources → Call → Answer) (problems_of : Source
   pub reported : WasToldMost (findings problems_of journal) seen.reporter seen.reporter'
   pub engine : IsEngineAfter began journal seen.engine seen.engine'
 
-pub record RunOwes (answer_of : Sources → Call → Answer) (problems_of : Sources → Bytes → List Problem) (content : Bytes → Option Bytes) (words : List Bytes) (seen : Seen) (user : UserSeen) (outcome : Outcome) : Type 0 where
-  pub run : IsRun answer_of problems_of content words seen outcome.ending outcome.journal
+pub record RunOwes (answer_of : Sources → Call → Answer) (problems_of : Sources → Bytes → List Problem) (content : Bytes → Option Bytes) (words : List Bytes) (seen : Seen) (user : UserSeen) (handed : HandedBack) : Type 0 where
+  pub run : IsRun answer_of problems_of content words seen handed.ending handed.journal
   -- the status is that of how the run ended
-  pub status : outcome.status ≡ status_of outcome.ending
+  pub status : handed.status ≡ status_of handed.ending
   -- the user was told how the run ended, and nothing else
-  pub told : user.whole' ≡ true → user.err' ≡ option_map (λ bytes. bytes ++ line_text outcome.ending) user.err
+  pub told : user.whole' ≡ true → user.err' ≡ option_map (λ bytes. bytes ++ line_text handed.ending) user.err

@@ -10,7 +10,7 @@ use report_hub::Reporter;
 use std::alloc::Global;
 use transcript::print_checked;
 
-/// A reporter that writes each entry that it is told on a sink, and keeps it. Where it cannot be written, or memory is
+/// A reporter that writes each finding that it is told on a sink, and keeps it. Where it cannot be written, or memory is
 /// missing, it is not told, and the count of faults rises. As long as each put is whole, the sink has what was told, in order,
 /// and nothing else of the reporter's.
 #[derive(Drop)]
@@ -41,7 +41,7 @@ fn copies_of(alloc: Global, problems: &[Problem]) -> Result<Row<Problem>, NoMemo
     Ok(copies)
 }
 
-fn write_entry<O: Sink>(
+fn write_finding<O: Sink>(
     alloc: Global,
     out: &mut O,
     file: &Text,
@@ -58,12 +58,12 @@ fn write_entry<O: Sink>(
     }
 }
 
-fn entry_of(
+fn finding_of(
     alloc: Global,
     file: &Text,
     problems: &Row<Problem>,
 ) -> Result<(Text, Row<Problem>), NoMemory>
-    ensures { IfOk result (λ entry. entry ≡ (file.now, problems.now)) }
+    ensures { IfOk result (λ finding. finding ≡ (file.now, problems.now)) }
 {
     Ok((file.clone()?, copies_of(alloc, problems.as_slice())?))
 }
@@ -86,7 +86,7 @@ impl<O: Sink> SinkReporter<O> {
         }
     }
 
-    // Writes an entry and keeps it. Memory for it is found first, so that what is written is kept.
+    // Writes a finding and keeps it. Memory for it is found first, so that what is written is kept.
     fn keep(&mut self, file: &Text, problems: &Row<Problem>) -> Result<(), Failed>
         ensures ok { OnOk result (told_of self.new ≡ told_of self.old ++ (file.now, problems.now) ∷ []) }
         ensures err { OnErr result (told_of self.new ≡ told_of self.old) }
@@ -94,15 +94,15 @@ impl<O: Sink> SinkReporter<O> {
         ensures wrote { WroteText result (checked_text file.now problems.now) (O.whole (sink_of self.new))
             (O.written (sink_of self.old)) (O.written (sink_of self.new)) }
     {
-        let entry = match entry_of(self.alloc, file, problems) {
-            Ok(entry) => entry,
+        let finding = match finding_of(self.alloc, file, problems) {
+            Ok(finding) => finding,
             Err(NoMemory {}) => return Err(Failed {}),
         };
         if self.told.reserve(1).is_err() {
             return Err(Failed {});
         }
-        write_entry(self.alloc, &mut self.out, file, problems)?;
-        self.told.push_reserved(entry);
+        write_finding(self.alloc, &mut self.out, file, problems)?;
+        self.told.push_reserved(finding);
         Ok(())
     }
 }

@@ -28,14 +28,14 @@ use Rattle.counting_word.specs.Calls.{Meets}
 use Rattle.desk_driver.specs.Drives.{findings_in}
 use Rattle.session_threads.specs.Clients.{Each, HasPlayed, IsMet, scripts_played, answers_played}
 use Rattle.session_threads.specs.Ended.{IsShut, entries_of}
-use Rattle.session_threads.specs.Left.{IsOutcomeOf, OutcomeFrom, outcome_at}
+use Rattle.session_threads.specs.Left.{IsFateOf, FateFrom, fate_at}
 use Rattle.session_threads.specs.Parts.{AllEnded, ShutAt}
 use Rattle.session_threads.specs.Served.{HasServed}
 use Rattle.session_threads.specs.Sessions.{Comes, IsSession, RoseIfUnbegun}
 use Rattle.session_threads.specs.declared.clients.Played.{Played}
 use Rattle.session_threads.specs.declared.closing.Ended.{Ended}
-use Rattle.session_threads.specs.declared.outcome.Outcome.{Outcome}
-use Rattle.session_threads.specs.declared.outcome.Outcome.TheVariants as outcome
+use Rattle.session_threads.specs.declared.fate.Fate.{Fate}
+use Rattle.session_threads.specs.declared.fate.Fate.TheVariants as fate
 use Rattle.session_threads.proofs.Full.{nothing_more, whole_seen, whole_journal, all_are_settled}
 use Rattle.session_threads.proofs.Findings.{all_found}
 use Rattle.session_threads.proofs.Makers.{IsWhole}
@@ -76,7 +76,7 @@ module _ (answer_of : Sources → Call → Answer) (problems_of : Sources → By
       journal_is =
           whole_journal (journal_of closer.seen) journal (subst (λ (es : List Entry). IsPrefix (journal_of es) journal) met_seen begins) legal shut.shut shut.settled
 
-      pub session_is : (scripts : List Script) (became : Outcome) → Comes answer_of scripts became (journal_of closer.seen) → IsSession answer_of problems_of scripts became journal found
+      pub session_is : (scripts : List Script) (became : Fate) → Comes answer_of scripts became (journal_of closer.seen) → IsSession answer_of problems_of scripts became journal found
       session_is scripts became comes =
           subst (λ (j : List Event). IsSession answer_of problems_of scripts became j found) (sym journal_is)
           (record {
@@ -171,43 +171,43 @@ module _ {B : Type 0} (answer_of : Sources → Call → Answer) (problems_of : S
       mine = client_own;
     }
 
-    came : (became : Outcome) → IsOutcomeOf others became → Comes answer_of scripts became (journal_of history)
-    came (outcome.Played given rows) is =
+    came : (became : Fate) → IsFateOf others became → Comes answer_of scripts became (journal_of history)
+    came (fate.Played given rows) is =
         let answered : map Some rows ≡ answers_played clients = is.1 ∙ same_answers closer'.seen last.seen clients others zip in (
           is.0 ∙ same_scripts closer'.seen last.seen clients others zip ∙ scripted,
           of_these answer_of problems_of scripts clients all.ended_is.before engine.seen history whole_is rows answered,
           rows_are_replies answer_of problems_of scripts clients all.ended_is.before engine.seen history whole_is rows answered,
         )
-    came outcome.CutShort is = shut_is.shut
-    came outcome.Unbegun is = absurd is
-    came outcome.Unopened is = absurd is
+    came fate.CutShort is = shut_is.shut
+    came fate.Unbegun is = absurd is
+    came fate.Unopened is = absurd is
 
-  pub comes_played : (became : Outcome) → OutcomeFrom closer'.seen last.seen (option_map (λ (v : Vec (Played B) Global). v.items) ended.clients) became → Comes answer_of scripts became (journal_of history)
+  pub comes_played : (became : Fate) → FateFrom closer'.seen last.seen (option_map (λ (v : Vec (Played B) Global). v.items) ended.clients) became → Comes answer_of scripts became (journal_of history)
   comes_played became from = by ended.clients all.ended_is.played all.scripted from
     where
       by : (o : Option (Vec (Played B) Global)) → IfSome o (λ (v : Vec (Played B) Global). Each (HasPlayed all.ended_is.before) v.items) → IfSome o (λ (v : Vec (Played B) Global). scripts_played v.items ≡ scripts)
-          → OutcomeFrom closer'.seen last.seen (option_map (λ (v : Vec (Played B) Global). v.items) o) became → Comes answer_of scripts became (journal_of history)
-      by None each scripted is = subst (λ (b : Outcome). Comes answer_of scripts b (journal_of history)) (sym is) shut_is.shut
+          → FateFrom closer'.seen last.seen (option_map (λ (v : Vec (Played B) Global). v.items) o) became → Comes answer_of scripts became (journal_of history)
+      by None each scripted is = subst (λ (b : Fate). Comes answer_of scripts b (journal_of history)) (sym is) shut_is.shut
       by (Some v) each scripted (others, zip, is) = came v.items each scripted others zip became is
 
-  pub left_is_played : (became : Outcome) → OutcomeFrom closer'.seen last.seen (option_map (λ (v : Vec (Played B) Global). v.items) ended.clients) became
+  pub left_is_played : (became : Fate) → FateFrom closer'.seen last.seen (option_map (λ (v : Vec (Played B) Global). v.items) ended.clients) became
       → (journal : List Event) → IsPrefix (journal_of met.seen) journal → IsTrue (is_legal journal) → IsSession answer_of problems_of scripts became journal found
   left_is_played became from journal begins legal =
       session_is answer_of problems_of (length scripts + 2) engine ended.closing met closer found served shut_is meets journal begins legal scripts became (comes_played became from)
 
 -- ---- how a thread was refused
 
-pub rose_if_played : {B : Type 0} (first last : List Entry) (clients : Option (List (Played B))) (became : Outcome) → OutcomeFrom first last clients became → (before now : ℕ) → RoseIfUnbegun became before now
-rose_if_played first last None became is before now = subst (λ (b : Outcome). RoseIfUnbegun b before now) (sym is) tt
-rose_if_played first last (Some clients) (outcome.Played scripts answers) is before now = tt
-rose_if_played first last (Some clients) outcome.CutShort is before now = tt
-rose_if_played first last (Some clients) outcome.Unopened is before now = tt
-rose_if_played first last (Some clients) outcome.Unbegun is before now = absurd is.2
+pub rose_if_played : {B : Type 0} (first last : List Entry) (clients : Option (List (Played B))) (became : Fate) → FateFrom first last clients became → (before now : ℕ) → RoseIfUnbegun became before now
+rose_if_played first last None became is before now = subst (λ (b : Fate). RoseIfUnbegun b before now) (sym is) tt
+rose_if_played first last (Some clients) (fate.Played scripts answers) is before now = tt
+rose_if_played first last (Some clients) fate.CutShort is before now = tt
+rose_if_played first last (Some clients) fate.Unopened is before now = tt
+rose_if_played first last (Some clients) fate.Unbegun is before now = absurd is.2
 
-pub rose_if_unbegun : (index before now : ℕ) → Rose before now → RoseIfUnbegun (outcome_at index) before now
+pub rose_if_unbegun : (index before now : ℕ) → Rose before now → RoseIfUnbegun (fate_at index) before now
 rose_if_unbegun index before now rose = by (index == 0)
   where
-    by : (b : Bool) → RoseIfUnbegun (cond b outcome.Unbegun outcome.CutShort) before now
+    by : (b : Bool) → RoseIfUnbegun (cond b fate.Unbegun fate.CutShort) before now
     by true = rose
     by false = tt
 
@@ -239,10 +239,10 @@ close_alone journal legal h =
     let none : first.0 ≡ [] = nothing_more (Close ∷ []) first.0 (subst (λ js. IsTrue (is_legal js)) first.1 legal) refl (λ t within. absurd (let no : ⊥ = omega arith in no)) in
     first.1 ∙ ap (λ rest. Close ∷ rest) none
 
-pub comes_unbegun : (answer_of : Sources → Call → Answer) (scripts : List Script) (spare : View) (index : ℕ) → ShutAt spare index → Comes answer_of scripts (outcome_at index) (journal_of spare.seen)
+pub comes_unbegun : (answer_of : Sources → Call → Answer) (scripts : List Script) (spare : View) (index : ℕ) → ShutAt spare index → Comes answer_of scripts (fate_at index) (journal_of spare.seen)
 comes_unbegun answer_of scripts spare index at = by (index == 0) refl
   where
-    by : (b : Bool) → (index == 0) ≡ b → Comes answer_of scripts (cond b outcome.Unbegun outcome.CutShort) (journal_of spare.seen)
+    by : (b : Bool) → (index == 0) ≡ b → Comes answer_of scripts (cond b fate.Unbegun fate.CutShort) (journal_of spare.seen)
     by true e = close_alone (journal_of spare.seen) at.shut.knows.legal (at.index_is ∙ ap Some (eqb-true index 0 e))
     by false e = at.shut.shut
 

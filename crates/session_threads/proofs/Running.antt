@@ -36,8 +36,8 @@ use Rattle.session_threads.specs.Owed.{Seen, IsClientsJournal, printed, Complete
 use Rattle.session_threads.specs.Reading.{AreReadAs, HaveInput, HasSpawnFault, NamesClientFile}
 use Rattle.session_threads.specs.Sessions.{IsSession, RoseIfUnbegun}
 use Rattle.session_threads.specs.Written.{EndsAs, WroteAs}
-use Rattle.session_threads.specs.declared.outcome.Outcome.{Outcome}
-use Rattle.session_threads.specs.declared.outcome.Outcome.TheVariants as outcome
+use Rattle.session_threads.specs.declared.fate.Fate.{Fate}
+use Rattle.session_threads.specs.declared.fate.Fate.TheVariants as fate
 
 -- ---- a session that came to its end
 
@@ -81,7 +81,7 @@ module _ (answer_of : Sources → Call → Answer) (problems_of : Sources → By
 
   module _ (scripts : List Script) (journal : List Event) (found : List (List Problem)) (threads : mode_of words ≡ Threads) (read : ComesTo content (clients_reading (clients_of words)) (Ok scripts)) (same : seen.read_faults' ≡ seen.read_faults) (reported : WasToldMost (findings problems_of journal) seen.reporter seen.reporter') where
     -- the run, where it is known what began
-    began_so : (became : Outcome) (ended : Ending) (began : Option (List Script)) → IsSession answer_of problems_of scripts became journal found → IsPlayed ended
+    began_so : (became : Fate) (ended : Ending) (began : Option (List Script)) → IsSession answer_of problems_of scripts became journal found → IsPlayed ended
         → AreReadAs content (clients_of words) began ended → IsClientsJournal began ended journal → Wrote (printed answer_of problems_of began journal) ended seen.out seen.out'
         → HasWriteFault ended seen.put_faults seen.put_faults' → HasSpawnFault ended seen.spawn_faults seen.spawn_faults' → IsClientsRun answer_of problems_of content words seen ended journal
     began_so became ended began session ends input ran output writing spawning = record {
@@ -100,23 +100,23 @@ module _ (answer_of : Sources → Call → Answer) (problems_of : Sources → By
     }
 
     -- what is written of the clients' answers is the transcript
-    text_is : (played : List Script) (answers : List (List Answer)) → IsSession answer_of problems_of scripts (outcome.Played played answers) journal found
+    text_is : (played : List Script) (answers : List (List Answer)) → IsSession answer_of problems_of scripts (fate.Played played answers) journal found
         → session_text played journal answers found ≡ printed answer_of problems_of (Some scripts) journal
     text_is played answers session = λ i. session_text (session.comes.0 i) journal (session.comes.2 i) (session.found_is i)
 
     closed : OfScripts scripts journal → is_closed journal ≡ true
     closed of = ap is_closed of.shut ∙ closed_at of.before of.behind
 
-    run_ended : (played : List Script) (answers : List (List Answer)) (ended : Ending) → IsSession answer_of problems_of scripts (outcome.Played played answers) journal found → IsSessionEnding ended
+    run_ended : (played : List Script) (answers : List (List Answer)) (ended : Ending) → IsSession answer_of problems_of scripts (fate.Played played answers) journal found → IsSessionEnding ended
         → Wrote (session_text played journal answers found) ended seen.out seen.out' → HasWriteFault ended seen.put_faults seen.put_faults' → IsClientsRun answer_of problems_of content words seen ended journal
     run_ended played answers ending.Done session ends wrote writing =
-        began_so (outcome.Played played answers) ending.Done (Some scripts) session ends (ends, read) session.comes.1
+        began_so (fate.Played played answers) ending.Done (Some scripts) session ends (ends, read) session.comes.1
         (subst (λ text. Wrote text ending.Done seen.out seen.out') (text_is played answers session) wrote) writing tt
     run_ended played answers ending.WriteFault session ends wrote writing =
-        began_so (outcome.Played played answers) ending.WriteFault (Some scripts) session ends (ends, read) session.comes.1
+        began_so (fate.Played played answers) ending.WriteFault (Some scripts) session ends (ends, read) session.comes.1
         (subst (λ text. Wrote text ending.WriteFault seen.out seen.out') (text_is played answers session) wrote) writing tt
     run_ended played answers ending.NoMemory session ends wrote writing =
-        began_so (outcome.Played played answers) ending.NoMemory (Some scripts) session ends (ends, read) (closed session.comes.1)
+        began_so (fate.Played played answers) ending.NoMemory (Some scripts) session ends (ends, read) (closed session.comes.1)
         (subst (λ text. Wrote text ending.NoMemory seen.out seen.out') (text_is played answers session) wrote) writing tt
     run_ended played answers ending.Usage session ends wrote writing = absurd ends
     run_ended played answers ending.SpawnFault session ends wrote writing = absurd ends
@@ -128,18 +128,18 @@ module _ (answer_of : Sources → Call → Answer) (problems_of : Sources → By
     nothing_more : (text : Bytes) → seen.out' ≡ seen.out → Wrote text ending.NoMemory seen.out seen.out'
     nothing_more text same = subst (λ (now : Option Bytes). Wrote text ending.NoMemory seen.out now) (sym same) (grew_by_nothing text seen.out)
 
-    pub run_of : (became : Outcome) (ended : Ending) → IsSession answer_of problems_of scripts became journal found → EndsAs became ended → WroteAs became journal found ended seen.out seen.out'
+    pub run_of : (became : Fate) (ended : Ending) → IsSession answer_of problems_of scripts became journal found → EndsAs became ended → WroteAs became journal found ended seen.out seen.out'
         → HasWriteFault ended seen.put_faults seen.put_faults' → RoseIfUnbegun became seen.spawn_faults seen.spawn_faults' → IsClientsRun answer_of problems_of content words seen ended journal
-    run_of (outcome.Played played answers) ended session ends wrote writing rose = run_ended played answers ended session ends wrote writing
-    run_of outcome.CutShort ended session ends wrote writing rose =
+    run_of (fate.Played played answers) ended session ends wrote writing rose = run_ended played answers ended session ends wrote writing
+    run_of fate.CutShort ended session ends wrote writing rose =
         subst (λ (e : Ending). IsClientsRun answer_of problems_of content words seen e journal) (sym ends)
-        (began_so outcome.CutShort ending.NoMemory (Some scripts) session tt (tt, read) session.comes (nothing_more _ wrote) (counted ending.NoMemory ended ends writing) tt)
-    run_of outcome.Unbegun ended session ends wrote writing rose =
+        (began_so fate.CutShort ending.NoMemory (Some scripts) session tt (tt, read) session.comes (nothing_more _ wrote) (counted ending.NoMemory ended ends writing) tt)
+    run_of fate.Unbegun ended session ends wrote writing rose =
         subst (λ (e : Ending). IsClientsRun answer_of problems_of content words seen e journal) (sym ends)
-        (began_so outcome.Unbegun ending.SpawnFault (Some scripts) session tt (tt, read) session.comes wrote (counted ending.SpawnFault ended ends writing) rose)
-    run_of outcome.Unopened ended session ends wrote writing rose =
+        (began_so fate.Unbegun ending.SpawnFault (Some scripts) session tt (tt, read) session.comes wrote (counted ending.SpawnFault ended ends writing) rose)
+    run_of fate.Unopened ended session ends wrote writing rose =
         subst (λ (e : Ending). IsClientsRun answer_of problems_of content words seen e journal) (sym ends)
-        (began_so outcome.Unopened ending.NoMemory None session tt tt session.comes (nothing_more [] wrote) (counted ending.NoMemory ended ends writing) tt)
+        (began_so fate.Unopened ending.NoMemory None session tt tt session.comes (nothing_more [] wrote) (counted ending.NoMemory ended ends writing) tt)
 
 -- ---- no session
 

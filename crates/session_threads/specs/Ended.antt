@@ -20,7 +20,7 @@ pub record IsShut (view : View) : Type 0 where
 abbrev pub entries_of : ℕ → List Event → List Entry
 entries_of number events = map (λ (event : Event). record { event = event; author = number; found = callers_find event }) events
 
--- Each client has played until it had seen no more than `before`. Behind that the closing pass, of this number, shut the session
+-- Each client has played until it had seen no more than `before`. After that the closing pass, of this number, shut the session
 -- down, unless it was shut down; it made nothing else.
 pub record HaveEnded {B : Type 0} (number : ℕ) (ended : Ended B) : Type 0 where
   pub before : List Entry

@@ -17,7 +17,7 @@ use Rattle.report_hub.specs.Telling.{ReporterState}
 use Rattle.report_hub.specs.Told.{WasToldMost}
 use Rattle.session_input.specs.Clients.{clients_reading}
 use Rattle.session_input.specs.Reads.{told as told_by}
-use Rattle.session_run.specs.Owed.{Outcome, UserSeen}
+use Rattle.session_run.specs.Owed.{HandedBack, UserSeen}
 use Rattle.session_run.specs.Printed.{Wrote}
 use Rattle.session_run.specs.Reading.{HasReadFaults, HasWriteFault}
 use Rattle.session_run.specs.Run.{status_of, line_text}
@@ -101,9 +101,9 @@ pub record IsClientsRun (answer_of : Sources → Call → Answer) (problems_of :
   -- the reporter was told what the checks of the journal found, in order, with at most as many left out as reports failed
   pub reported : WasToldMost (findings problems_of journal) seen.reporter seen.reporter'
 
-pub record ThreadsOwe (answer_of : Sources → Call → Answer) (problems_of : Sources → Bytes → List Problem) (content : Bytes → Option Bytes) (words : List Bytes) (seen : Seen) (user : UserSeen) (outcome : Outcome) : Type 0 where
-  pub run : IsClientsRun answer_of problems_of content words seen outcome.ending outcome.journal
+pub record ThreadsOwe (answer_of : Sources → Call → Answer) (problems_of : Sources → Bytes → List Problem) (content : Bytes → Option Bytes) (words : List Bytes) (seen : Seen) (user : UserSeen) (handed : HandedBack) : Type 0 where
+  pub run : IsClientsRun answer_of problems_of content words seen handed.ending handed.journal
   -- the status is that of how the run ended
-  pub status : outcome.status ≡ status_of outcome.ending
+  pub status : handed.status ≡ status_of handed.ending
   -- the user was told how the run ended, and nothing else
-  pub told : user.whole' ≡ true → user.err' ≡ option_map (λ bytes. bytes ++ line_text outcome.ending) user.err
+  pub told : user.whole' ≡ true → user.err' ≡ option_map (λ bytes. bytes ++ line_text handed.ending) user.err

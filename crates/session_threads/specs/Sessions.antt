@@ -13,8 +13,8 @@ use Rattle.ask_history.specs.declared.events.Event.TheVariants.{Accept, Close}
 use Rattle.ask_history.specs.declared.script.Script.{Script}
 use Rattle.report_hub.specs.Telling.{Finding}
 use Rattle.client_scripts.specs.OfScripts.{OfScripts}
-use Rattle.session_threads.specs.declared.outcome.Outcome.{Outcome}
-use Rattle.session_threads.specs.declared.outcome.Outcome.TheVariants as outcome
+use Rattle.session_threads.specs.declared.fate.Fate.{Fate}
+use Rattle.session_threads.specs.declared.fate.Fate.TheVariants as fate
 
 -- ---- answers
 
@@ -50,21 +50,21 @@ problems_in problems_of journal = map (λ (finding : Finding). finding.1) (findi
 
 -- What the journal is, by what became of the clients: that of clients that play these scripts, and each has the replies to its
 -- calls; or shut down; or the shutdown alone; or nothing happened.
-abbrev pub Comes : (Sources → Call → Answer) → List Script → Outcome → List Event → Type 0
-Comes answer_of scripts (outcome.Played played answers) journal = (played ≡ scripts) × OfScripts scripts journal × (answers ≡ rows_of answer_of journal scripts)
-Comes answer_of scripts outcome.CutShort journal = is_closed journal ≡ true
-Comes answer_of scripts outcome.Unbegun journal = journal ≡ Close ∷ []
-Comes answer_of scripts outcome.Unopened journal = journal ≡ []
+abbrev pub Comes : (Sources → Call → Answer) → List Script → Fate → List Event → Type 0
+Comes answer_of scripts (fate.Played played answers) journal = (played ≡ scripts) × OfScripts scripts journal × (answers ≡ rows_of answer_of journal scripts)
+Comes answer_of scripts fate.CutShort journal = is_closed journal ≡ true
+Comes answer_of scripts fate.Unbegun journal = journal ≡ Close ∷ []
+Comes answer_of scripts fate.Unopened journal = journal ≡ []
 
 -- What a session of clients with these scripts comes to: its journal is legal, and every accepted call is settled in it. What was
 -- found is what its checks find.
-pub record IsSession (answer_of : Sources → Call → Answer) (problems_of : Sources → Bytes → List Problem) (scripts : List Script) (became : Outcome) (journal : List Event) (found : List (List Problem)) : Type 0 where
+pub record IsSession (answer_of : Sources → Call → Answer) (problems_of : Sources → Bytes → List Problem) (scripts : List Script) (became : Fate) (journal : List Event) (found : List (List Problem)) : Type 0 where
   pub comes : Comes answer_of scripts became journal
   pub legal : IsTrue (is_legal journal)
   pub settled : all_settled journal ≡ true
   pub found_is : found ≡ problems_in problems_of journal
 
 -- No client began only where a thread was refused.
-abbrev pub RoseIfUnbegun : Outcome → ℕ → ℕ → Type 0
-RoseIfUnbegun outcome.Unbegun before now = Rose before now
+abbrev pub RoseIfUnbegun : Fate → ℕ → ℕ → Type 0
+RoseIfUnbegun fate.Unbegun before now = Rose before now
 RoseIfUnbegun _ before now = ⊤

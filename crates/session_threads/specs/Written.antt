@@ -8,15 +8,15 @@ use Rattle.session_run.specs.Run.{IsSessionEnding}
 use Rattle.session_run.specs.declared.ending.Ending.{Ending}
 use Rattle.session_run.specs.declared.ending.Ending.TheVariants as ending
 use Rattle.transcript.specs.Transcript.{session_text}
-use Rattle.session_threads.specs.declared.outcome.Outcome.{Outcome}
-use Rattle.session_threads.specs.declared.outcome.Outcome.TheVariants as outcome
+use Rattle.session_threads.specs.declared.fate.Fate.{Fate}
+use Rattle.session_threads.specs.declared.fate.Fate.TheVariants as fate
 
-abbrev pub EndsAs : Outcome → Ending → Type 0
-EndsAs (outcome.Played scripts answers) ended = IsSessionEnding ended
-EndsAs outcome.Unbegun ended = ended ≡ ending.SpawnFault
+abbrev pub EndsAs : Fate → Ending → Type 0
+EndsAs (fate.Played scripts answers) ended = IsSessionEnding ended
+EndsAs fate.Unbegun ended = ended ≡ ending.SpawnFault
 EndsAs _ ended = ended ≡ ending.NoMemory
 
 -- Of a session that was played to its end all is written that is printed of it, or a prefix. Of others nothing is.
-abbrev pub WroteAs : Outcome → List Event → List (List Problem) → Ending → Option Bytes → Option Bytes → Type 0
-WroteAs (outcome.Played scripts answers) journal found ended before now = Wrote (session_text scripts journal answers found) ended before now
+abbrev pub WroteAs : Fate → List Event → List (List Problem) → Ending → Option Bytes → Option Bytes → Type 0
+WroteAs (fate.Played scripts answers) journal found ended before now = Wrote (session_text scripts journal answers found) ended before now
 WroteAs _ journal found ended before now = now ≡ before

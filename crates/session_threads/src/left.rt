@@ -5,7 +5,7 @@ ghost use Rattle.ask_history.specs.declared.script.Script.{Script as Scripted};
 ghost use Rattle.counting_word.specs.Calls.{Meets};
 ghost use Rattle.report_hub.specs.Hub.{reporters_of};
 ghost use Rattle.session_threads.specs.Clients.{scripts_played, answers_played};
-ghost use Rattle.session_threads.specs.Left.{IsLeft, IsOutcomeOf, OutcomeFrom, outcome_at};
+ghost use Rattle.session_threads.specs.Left.{IsLeft, IsFateOf, FateFrom, fate_at};
 ghost use Rattle.session_threads.specs.Parts.{AllEnded, ShutAt};
 ghost use Rattle.session_threads.specs.Passes.{Meeting};
 ghost use Rattle.session_threads.specs.Served.{HasServed};
@@ -14,7 +14,7 @@ ghost use Rattle.pc_outside.specs.Outside.{Rose};
 
 use crate::clients::Played;
 use crate::closing::{Ended, meet_all};
-use crate::outcome::Outcome;
+use crate::fate::Fate;
 use crate::serving::Served;
 use ask_desk::{Desk, EnginePass, Pass};
 use ask_history::{Answer, Engine, Journal, Script};
@@ -28,7 +28,7 @@ use std::sync::Wait;
 #[derive(Drop)]
 pub(crate) struct Left {
     pub(crate) journal: Journal,
-    pub(crate) outcome: Outcome,
+    pub(crate) fate: Fate,
     pub(crate) found: Row<Row<Problem>>,
     pub(crate) hub: Hub,
 }
@@ -67,12 +67,12 @@ fn rows_of<B: Room>(
 }
 
 // What became of clients that played.
-fn outcome_of<B: Room>(alloc: Global, clients: Vec<Played<B>>) -> Outcome
-    ensures { IsOutcomeOf clients.items result }
+fn fate_of<B: Room>(alloc: Global, clients: Vec<Played<B>>) -> Fate
+    ensures { IsFateOf clients.items result }
 {
     match rows_of(alloc, clients) {
-        Some((scripts, answers)) => Outcome::Played { scripts, answers },
-        None => Outcome::CutShort,
+        Some((scripts, answers)) => Fate::Played { scripts, answers },
+        None => Fate::CutShort,
     }
 }
 
@@ -82,27 +82,27 @@ fn meet_clients<B: Room>(
     desk: &Desk<B>,
     pass: &mut Pass<B>,
     clients: Option<Vec<Played<B>>>,
-) -> Outcome
-    ensures { OutcomeFrom pass.old.seen pass.new.seen (option_map (λ all. all.items) clients) result }
+) -> Fate
+    ensures { FateFrom pass.old.seen pass.new.seen (option_map (λ all. all.items) clients) result }
 {
     match clients {
         Some(clients) => {
             let mut clients = clients;
             meet_all(desk, pass, &mut clients);
-            outcome_of(alloc, clients)
+            fate_of(alloc, clients)
         }
-        None => Outcome::CutShort,
+        None => Fate::CutShort,
     }
 }
 
 // What became of the clients of a session that was shut down at this journal index before they began.
-fn outcome_at(index: u64) -> Outcome
-    ensures { result ≡ outcome_at index }
+fn fate_at(index: u64) -> Fate
+    ensures { result ≡ fate_at index }
 {
     if index == 0 {
-        Outcome::Unbegun
+        Fate::Unbegun
     } else {
-        Outcome::CutShort
+        Fate::CutShort
     }
 }
 
@@ -117,7 +117,7 @@ pub(crate) fn left_played<B: Room, N: Engine>(
     ensures left { (scripts : List Scripted) → HasServed N.answer_of N.problems_of (length scripts + 2) served.pass.pass served.found → AllEnded scripts ended spare
         → IsLeft N.answer_of N.problems_of scripts served.pass.pass.seen result }
     ensures hub { reporters_of result.hub ≡ reporters_of served.hub }
-    ensures counts { (before now : ℕ) → RoseIfUnbegun result.outcome before now }
+    ensures counts { (before now : ℕ) → RoseIfUnbegun result.fate before now }
 {
     let Served { pass, hub, found } = served;
     let Ended { closing, clients } = ended;
@@ -126,11 +126,11 @@ pub(crate) fn left_played<B: Room, N: Engine>(
     let mut spare = spare;
     meet_engine(&desk, &mut engine, &mut closing);
     desk.meet(&mut closing, &mut spare);
-    let outcome = meet_clients(alloc, &desk, &mut closing, clients);
+    let fate = meet_clients(alloc, &desk, &mut closing, clients);
     let journal = desk.end(engine);
     Left {
         journal,
-        outcome,
+        fate,
         found,
         hub,
     }
@@ -156,7 +156,7 @@ pub(crate) fn left_unbegun<B: Room, N: Engine>(
     ensures left { (scripts : List Scripted) → HasServed N.answer_of N.problems_of (length scripts + 2) served.pass.pass served.found → ShutAt spare index
         → IsLeft N.answer_of N.problems_of scripts served.pass.pass.seen result }
     ensures hub { reporters_of result.hub ≡ reporters_of served.hub }
-    ensures counts { (before now : ℕ) → Rose before now → RoseIfUnbegun result.outcome before now }
+    ensures counts { (before now : ℕ) → Rose before now → RoseIfUnbegun result.fate before now }
 {
     let Served { pass, hub, found } = served;
     let mut engine = pass;
@@ -165,7 +165,7 @@ pub(crate) fn left_unbegun<B: Room, N: Engine>(
     let journal = desk.end(engine);
     Left {
         journal,
-        outcome: outcome_at(index),
+        fate: fate_at(index),
         found,
         hub,
     }

@@ -3,8 +3,8 @@
 
 mod clients;
 mod closing;
+mod fate;
 mod left;
-mod outcome;
 mod parts;
 mod passes;
 mod reading;

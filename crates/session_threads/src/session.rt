@@ -13,11 +13,11 @@ ghost use Rattle.session_threads.specs.Parts.{ArePasses, AreParts, RoseIfRefused
 ghost use Rattle.session_threads.specs.Passes.{IsEngines, IsNew};
 ghost use Rattle.session_threads.specs.Served.{HasServed};
 ghost use Rattle.session_threads.specs.Sessions.{IsSession, RoseIfUnbegun};
-ghost use Rattle.session_threads.specs.declared.outcome.Outcome.TheVariants as became;
+ghost use Rattle.session_threads.specs.declared.fate.Fate.TheVariants as became;
 
 use crate::closing::{Ended, end_clients};
+use crate::fate::Fate;
 use crate::left::{Left, left_played, left_unbegun, shut_unbegun};
-use crate::outcome::Outcome;
 use crate::parts::{ClientsPart, Parts};
 use crate::passes::Passes;
 use crate::serving::{Served, serve};
@@ -37,7 +37,7 @@ use work_queue::Limits;
 #[derive(Drop)]
 pub(crate) struct Session {
     pub(crate) journal: Journal,
-    pub(crate) outcome: Outcome,
+    pub(crate) fate: Fate,
     pub(crate) found: Row<Row<Problem>>,
     pub(crate) reporter: Box<dyn Reporter + Send>,
 }
@@ -140,7 +140,7 @@ fn play_parts<
 fn left_of<B: Room, N: Engine>(alloc: Global, desk: Desk<B>, parts: Parts<B>) -> Left
     ensures left { (scripts : List Scripted) → AreParts N.answer_of N.problems_of scripts parts → IsLeft N.answer_of N.problems_of scripts parts.served.pass.pass.seen result }
     ensures hub { reporters_of result.hub ≡ reporters_of parts.served.hub }
-    ensures counts { (before now : ℕ) → RoseIfRefused parts.clients before now → RoseIfUnbegun result.outcome before now }
+    ensures counts { (before now : ℕ) → RoseIfRefused parts.clients before now → RoseIfUnbegun result.fate before now }
 {
     let Parts {
         served,
@@ -155,7 +155,7 @@ fn left_of<B: Room, N: Engine>(alloc: Global, desk: Desk<B>, parts: Parts<B>) ->
 
 // No session began.
 fn unopened(alloc: Global, hub: Hub) -> Left
-    ensures outcome { result.outcome ≡ became.Unopened }
+    ensures fate { result.fate ≡ became.Unopened }
     ensures journal { result.journal.events ≡ [] }
     ensures found { result.found ≡ [] }
     ensures hub { reporters_of result.hub ≡ reporters_of hub }
@@ -164,7 +164,7 @@ fn unopened(alloc: Global, hub: Hub) -> Left
         journal: Journal {
             events: Row::new(alloc),
         },
-        outcome: Outcome::Unopened,
+        fate: Fate::Unopened,
         found: Row::new(alloc),
         hub,
     }
@@ -195,9 +195,9 @@ fn play_at<
     requires few { length scripts ≤ 32 }
     requires can { CanPlayAll scripts }
     requires fresh { N.state engine.old ≡ fresh_state }
-    ensures session { IsSession N.answer_of N.problems_of scripts result.outcome result.journal.events result.found }
+    ensures session { IsSession N.answer_of N.problems_of scripts result.fate result.journal.events result.found }
     ensures told { OfEach (IsToldMost (of_box told) (of_box (λ z. (Reporter-dyn z).faults z.1)) (findings N.problems_of result.journal.events)) (reporters_of hub) (reporters_of result.hub) }
-    ensures counts { RoseIfUnbegun result.outcome (S.faults spawner.old) (S.faults spawner.new) }
+    ensures counts { RoseIfUnbegun result.fate (S.faults spawner.old) (S.faults spawner.new) }
 {
     let (desk, passes) = match desk_of::<B>(alloc, opened, limits, scripts) {
         Ok(made) => made,
@@ -220,9 +220,9 @@ fn play_told<R: Threads + Wait + Sync, S: Spawner, G: Gate + Send, N: Engine + S
     requires few { length scripts ≤ 32 }
     requires can { CanPlayAll scripts }
     requires fresh { N.state engine.old ≡ fresh_state }
-    ensures session { IsSession N.answer_of N.problems_of scripts result.outcome result.journal.events result.found }
+    ensures session { IsSession N.answer_of N.problems_of scripts result.fate result.journal.events result.found }
     ensures told { OfEach (IsToldMost (of_box told) (of_box (λ z. (Reporter-dyn z).faults z.1)) (findings N.problems_of result.journal.events)) (reporters_of hub) (reporters_of result.hub) }
-    ensures counts { RoseIfUnbegun result.outcome (S.faults spawner.old) (S.faults spawner.new) }
+    ensures counts { RoseIfUnbegun result.fate (S.faults spawner.old) (S.faults spawner.new) }
 {
     let limits = Limits {
         calls: 65_536,
@@ -241,7 +241,7 @@ fn play_told<R: Threads + Wait + Sync, S: Spawner, G: Gate + Send, N: Engine + S
 
 // Nothing was played.
 fn nothing(alloc: Global, reporter: Box<dyn Reporter + Send>) -> Session
-    ensures outcome { result.outcome ≡ became.Unopened }
+    ensures fate { result.fate ≡ became.Unopened }
     ensures journal { result.journal.events ≡ [] }
     ensures found { result.found ≡ [] }
     ensures reporter { result.reporter ≡ reporter }
@@ -250,7 +250,7 @@ fn nothing(alloc: Global, reporter: Box<dyn Reporter + Send>) -> Session
         journal: Journal {
             events: Row::new(alloc),
         },
-        outcome: Outcome::Unopened,
+        fate: Fate::Unopened,
         found: Row::new(alloc),
         reporter,
     }
@@ -269,9 +269,9 @@ pub(crate) fn play_session<R: Threads + Wait + Sync, S: Spawner, G: Gate + Send,
     requires few { length scripts ≤ 32 }
     requires can { CanPlayAll scripts }
     requires fresh { N.state engine.old ≡ fresh_state }
-    ensures session { IsSession N.answer_of N.problems_of scripts result.outcome result.journal.events result.found }
+    ensures session { IsSession N.answer_of N.problems_of scripts result.fate result.journal.events result.found }
     ensures told { IsToldMost told (λ b. (Reporter-box b).faults b.value) (findings N.problems_of result.journal.events) reporter result.reporter }
-    ensures counts { RoseIfUnbegun result.outcome (S.faults spawner.old) (S.faults spawner.new) }
+    ensures counts { RoseIfUnbegun result.fate (S.faults spawner.old) (S.faults spawner.new) }
 {
     let mut hub = match Hub::new(alloc) {
         Ok(hub) => hub,
@@ -283,7 +283,7 @@ pub(crate) fn play_session<R: Threads + Wait + Sync, S: Spawner, G: Gate + Send,
     };
     let Left {
         journal,
-        outcome,
+        fate,
         found,
         hub,
     } = play_told(rt, alloc, scripts, engine, hub, spawner, gate);
@@ -291,7 +291,7 @@ pub(crate) fn play_session<R: Threads + Wait + Sync, S: Spawner, G: Gate + Send,
     match hub.detach(number) {
         Some(reporter) => Session {
             journal,
-            outcome,
+            fate,
             found,
             reporter,
         },

@@ -9,7 +9,7 @@ ghost use Rattle.session_threads.specs.Owed.{IsClientsRun, ThreadsOwe};
 ghost use Rattle.session_threads.specs.Written.{EndsAs, WroteAs};
 ghost use Rattle.transcript.specs.Transcript.{session_text};
 
-use crate::outcome::Outcome;
+use crate::fate::Fate;
 use crate::reading::read_clients;
 use crate::session::{Session, play_session};
 use ask_history::{Answer, Engine, Journal, Script};
@@ -43,21 +43,21 @@ fn write_played<O: Sink>(
 fn ending_of<O: Sink>(
     alloc: Global,
     out: &mut O,
-    outcome: &Outcome,
+    fate: &Fate,
     journal: &Journal,
     found: &Row<Row<Problem>>,
 ) -> Ending
-    ensures ends { EndsAs outcome.now result }
-    ensures wrote { WroteAs outcome.now journal.now.events found.now result (O.written out.old) (O.written out.new) }
+    ensures ends { EndsAs fate.now result }
+    ensures wrote { WroteAs fate.now journal.now.events found.now result (O.written out.old) (O.written out.new) }
     ensures counts { HasWriteFault result (O.faults out.old) (O.faults out.new) }
 {
-    match outcome {
-        Outcome::Played { scripts, answers } => {
+    match fate {
+        Fate::Played { scripts, answers } => {
             write_played(alloc, out, scripts, journal, answers, found)
         }
-        Outcome::CutShort => Ending::NoMemory,
-        Outcome::Unbegun => Ending::SpawnFault,
-        Outcome::Unopened => Ending::NoMemory,
+        Fate::CutShort => Ending::NoMemory,
+        Fate::Unbegun => Ending::SpawnFault,
+        Fate::Unopened => Ending::NoMemory,
     }
 }
 
@@ -65,17 +65,17 @@ fn ending_of<O: Sink>(
 fn write_session<O: Sink>(alloc: Global, out: &mut O, session: Session) -> Kept
     ensures journal { result.journal ≡ session.journal }
     ensures reporter { result.reporter ≡ session.reporter }
-    ensures ends { EndsAs session.outcome result.ending }
-    ensures wrote { WroteAs session.outcome session.journal.events session.found result.ending (O.written out.old) (O.written out.new) }
+    ensures ends { EndsAs session.fate result.ending }
+    ensures wrote { WroteAs session.fate session.journal.events session.found result.ending (O.written out.old) (O.written out.new) }
     ensures counts { HasWriteFault result.ending (O.faults out.old) (O.faults out.new) }
 {
     let Session {
         journal,
-        outcome,
+        fate,
         found,
         reporter,
     } = session;
-    let ending = ending_of(alloc, out, &outcome, &journal, &found);
+    let ending = ending_of(alloc, out, &fate, &journal, &found);
     Kept {
         ending,
         journal,

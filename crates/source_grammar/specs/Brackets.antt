@@ -47,7 +47,7 @@ abbrev pub left_open : List Opened → Option Span
 left_open [] = None
 left_open (opened ∷ rest) = Some (outermost opened rest)
 
--- the brackets that are open behind a token, the innermost first
+-- the brackets that are open after a token, the innermost first
 abbrev pub opened_after : Role → Span → List Opened → List Opened
 opened_after (Opens b) span opened = record { bracket = b; span = span } ∷ opened
 opened_after (Closes b) span opened = without_first opened
@@ -86,7 +86,7 @@ has_newline _ = true
 abbrev pub separates : Lexeme → Bool
 separates x = is_semicolon x || has_newline x.place.before
 
--- outside brackets no token behind these separates statements
+-- outside brackets no token after these separates statements
 abbrev pub has_no_separator : List Opened → List Lexeme → Bool
 has_no_separator opened [] = true
 has_no_separator opened (x ∷ xs) = (not (list_is_empty opened) || not (separates x)) && has_no_separator (open_after x opened) xs

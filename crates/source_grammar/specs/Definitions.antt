@@ -76,7 +76,7 @@ abbrev pub ProperArguments : Arguments → Type 0
 ProperArguments NoArguments = Unit {0}
 ProperArguments (Balanced opening inside closing) = IsJoined opening × (is_balanced inside ≡ true)
 
--- Behind an annotation stands nl, behind a modifier nothing. `after` is what follows all modifiers.
+-- After an annotation stands nl, after a modifier nothing. `after` is what follows all modifiers.
 abbrev pub ProperModList : List Mod → List Lexeme → Type 0
 ProperModList [] after = Unit {0}
 ProperModList (m ∷ ms) after = IsJoinedPart (mod_list_tokens ms ++ after) × ProperModList ms after
@@ -138,7 +138,7 @@ cpar_rest cpar = par_word_tokens cpar.word ++ par_tokens cpar.par
 abbrev pub cpar_tokens : CPar → List Lexeme
 cpar_tokens cpar = mods_tokens cpar.mods ++ cpar_rest cpar
 
--- [X,..], as the first and what stands behind it, each with its comma
+-- [X,..], as the first and what stands after it, each with its comma
 pub record Behind (X : Type 0) : Type 0 where
   pub comma : Place
   pub item : X

@@ -53,7 +53,7 @@ takes_finally expr = list_any (elim [ TryOpen ↦ true | CatchOpen ↦ true | _ 
 abbrev pub takes_operand : Expr → Bool
 takes_operand expr = list_any (elim [ ReturnOpen ↦ true | _ ↦ false ]) (open_heads expr)
 
--- `while` or `if` in the same line, directly behind an expression, would begin the operand of a `return` there
+-- `while` or `if` in the same line, directly after an expression, would begin the operand of a `return` there
 abbrev pub is_apart : Sep → Place → Bool
 is_apart [] word = has_newline word.before
 is_apart (place ∷ places) word = true
@@ -78,12 +78,12 @@ ends_with_name (x ∷ y ∷ xs) = ends_with_name (y ∷ xs)
 abbrev pub ends_in_path : WrittenType → Bool
 ends_in_path type = ends_with_name (type_tokens type)
 
--- a selection or type arguments behind it belong to the type
+-- a selection or type arguments after it belong to the type
 abbrev pub extends_type : Prim → Bool
 extends_type (NewOf word type) = ends_in_path type
 extends_type _ = false
 
--- Args behind it belong to the `new`
+-- Args after it belong to the `new`
 abbrev pub takes_args : Prim → Bool
 takes_args (NewOf word type) = true
 takes_args _ = false
@@ -99,7 +99,7 @@ abbrev pub is_sign_alone : Prim → Bool
 is_sign_alone (NamePrim id) = is_prefix_id id
 is_sign_alone _ = false
 
--- Args behind it are its own
+-- Args after it are its own
 abbrev pub is_called : Prim → Args → Bool
 is_called prim args = not (takes_args prim) && (not (is_sign_alone prim) || has_newline (newline_before (args_tokens args)))
 
@@ -111,7 +111,7 @@ abbrev pub prim_of : Prefix → Prim
 prim_of (Unsigned prim) = prim
 prim_of (Signed sign prim) = prim
 
--- an identifier behind it is an operator: it is the name of no Hole, and the operand of no prefix operator
+-- an identifier after it is an operator: it is the name of no Hole, and the operand of no prefix operator
 abbrev pub is_before_operator : Prefix → Bool
 is_before_operator prefix = not (is_hole (prim_of prefix)) && not (is_sign_alone (prim_of prefix))
 
@@ -170,7 +170,7 @@ abbrev pub ProperParLists : List ParList → Type 0
 ProperParLists [] = Unit {0}
 ProperParLists (list ∷ lists) = IsNear list.opening × OnlyLastRepeats (items list.pars) × ProperParLists lists
 
--- What is asked of a statement: of which kind its list is, whether it is broken, its tokens, and those behind it in its list.
+-- What is asked of a statement: of which kind its list is, whether it is broken, its tokens, and those after it in its list.
 abbrev pub Rule : Type 1
 Rule = ListKind → Bool → List Lexeme → List Lexeme → Type 0
 
@@ -274,7 +274,7 @@ module _ (rule : Rule) where
     ProperCases (LastCase c) = ProperCase c
     ProperCases (MoreCases c cases) = ProperCase c × ProperCases cases
 
-    -- The list of statements ends where the next case begins. The first `=>` outside brackets behind `if` is that of the case.
+    -- The list of statements ends where the next case begins. The first `=>` outside brackets after `if` is that of the case.
     pub ProperCase : Case → Type 0
     ProperCase (CaseOf word pat arrow stats) =
         ProperPat pat × (has_no_case [] (bstats_tokens stats) ≡ true) × ProperBStats WithinExpr stats

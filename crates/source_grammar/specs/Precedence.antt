@@ -66,7 +66,7 @@ is_right name = is_of (codes ":") (last_byte name)
 abbrev pub same_side : Id → Id → Bool
 same_side a b = if is_right a.name then is_right b.name else not (is_right b.name)
 
--- the operators behind this one, up to one that binds less, associate as it does where they have its precedence
+-- the operators after this one, up to one that binds less, associate as it does where they have its precedence
 abbrev pub agrees_with : Id → List Id → Bool
 agrees_with a [] = true
 agrees_with a (b ∷ bs) =
@@ -84,7 +84,7 @@ pub record Operand (A : Type 0) : Type 0 where
   pub built : A
   pub span : Span
 
--- an operator, and the operand behind it
+-- an operator, and the operand after it
 pub record Operation (A : Type 0) : Type 0 where
   pub operator : Id
   pub operand : Operand A

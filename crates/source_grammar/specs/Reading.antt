@@ -8,7 +8,7 @@ use Rattle.source_grammar.specs.Lexemes.{Lexeme}
 abbrev pub Production : Type 1
 Production = List Lexeme → Tree → Type 0
 
--- others can stand behind these tokens so that the whole is such a part
+-- others can stand after these tokens so that the whole is such a part
 pub record CanBegin (Is : Production) (front : List Lexeme) : Type 0 where
   pub others : List Lexeme
   pub tree : Tree

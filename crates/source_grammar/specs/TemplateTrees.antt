@@ -54,7 +54,7 @@ parents_of (ParentsWith ancestors opening stats closing) = ancestors
 
 -- ---- the whole
 
--- Its kids are its type parameters, its parameters, its parents, with the arguments behind the first, and the statements of its body.
+-- Its kids are its type parameters, its parameters, its parents, with the arguments after the first, and the statements of its body.
 abbrev pub template_tree : TreeKind → Modifiers → Id → List Lexeme → List Tree → List Tree → Parents → List Tree → Tree
 template_tree kind modifiers id tokens variables params ancestors statements =
     with_detail (detail.Template (record {

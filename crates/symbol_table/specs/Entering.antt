@@ -92,7 +92,7 @@ pub record Enters (roots : List Tree) (name : Bytes) (owner : Option ℕ) (old n
   pub owners : All (λ d. (d.owner ≡ owner) ⊎ IsSomeAnd d.owner (λ number. length old.definitions.found.items ≤ number)) more
 
 -- What entering a tree does, wherever it stands directly in a tree of this kind and detail, whose symbol has this number: its
--- sites are entered, and what it defines is known behind what stands before it.
+-- sites are entered, and what it defines is known after what stands before it.
 abbrev pub EntersKid : ℕ → Bytes → Option ℕ → TreeKind → Detail → Tree → Entering → Entering → Type 0
 EntersKid file name owner kind parts kid old new = (roots before : List Tree) (outer : List Kid)
     → IsAt roots file owner kind parts outer old.definitions.found.items

@@ -112,14 +112,14 @@ number_for found owner kind name = if is_admitted found owner kind name then Som
 abbrev pub next_found : List Found → Option ℕ → SymKind → List ℕ → Standing → Found
 next_found found owner kind name standing = found_as found (length found) owner (own_step found owner kind name) standing
 
--- a definition is added behind the others, unless it is a second one
+-- a definition is added after the others, unless it is a second one
 abbrev pub defined : List Found → Option ℕ → SymKind → List ℕ → Standing → List Found
 defined found owner kind name standing =
     if is_admitted found owner kind name then found ++ next_found found owner kind name standing ∷ [] else found
 
 -- ---- what is kept
 
--- a definition that was added behind these
+-- a definition that was added after these
 pub record IsNext (before : List Found) (found : Found) : Type 0 where
   pub owner : Option ℕ
   pub kind : SymKind
@@ -129,7 +129,7 @@ pub record IsNext (before : List Found) (found : Found) : Type 0 where
   pub admitted : is_admitted before owner kind name ≡ true
   pub is : found ≡ next_found before owner kind name standing
 
--- each definition was added behind those before it
+-- each definition was added after those before it
 pub record AreNext (found : List Found) : Type 0 where
   pub each : (at : ℕ) (d : Found) → at < length found → IsNext (take at found) (slice_index_or found at d)
 

@@ -29,7 +29,7 @@ items_by _ path = item.Signature path ∷ []
 abbrev pub items_of : Definition → List Item
 items_of d = items_by d.own.kind (path_to d)
 
--- the clauses of an import, which stand behind each other with commas between them
+-- the clauses of an import, which stand one after another with commas between them
 abbrev pub import_clauses : TreeKind → Detail → List ImportClause
 import_clauses kind.Import (detail.Import clauses) = clauses
 import_clauses _ _ = []

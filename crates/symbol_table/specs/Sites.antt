@@ -21,7 +21,7 @@ pub record Spread : Type 0 where
   pub tree : Tree
   pub sites : ℕ → List Tree → List Kid → List Site
 
--- the trees of some kids, behind those before them
+-- the trees of some kids, after those before them
 abbrev pub kid_sites : ℕ → List Kid → List Tree → List Spread → List Site
 kid_sites file around before [] = []
 kid_sites file around before (kid ∷ kids) =

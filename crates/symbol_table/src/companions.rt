@@ -149,7 +149,7 @@ fn add_apply(
     }
 }
 
-// Puts a problem behind those of the source at this position.
+// Puts a problem after those of the source at this position.
 fn tell(problems: &mut Vec<Row<Problem>>, file: u32, problem: Problem) -> Result<(), NoMemory>
     ensures { OnOk result (problems.new.items ≡ spec.told_more problems.old.items file problem) }
 {

@@ -122,7 +122,7 @@ impl Definitions {
         Ok(path)
     }
 
-    // Adds a definition behind the others.
+    // Adds a definition after the others.
     fn push(
         &mut self,
         number: u32,

@@ -46,7 +46,7 @@ fn enter_source(
     Ok(entering.take_told())
 }
 
-// Enters a source behind those before it.
+// Enters a source after those before it.
 fn add_source(all: &mut AllEntered, loaded: &Loaded<'_>) -> Result<(), NoMemory>
     requires kept { IsKept all.old.entering.definitions }
     requires told { all.old.entering.told ≡ [] }

@@ -61,7 +61,7 @@ fn clauses_of(tree: &Tree) -> &[ImportClause]
     }
 }
 
-/// Adds the qualifiers of the clauses of an import, in the source of this name, behind these items.
+/// Adds the qualifiers of the clauses of an import, in the source of this name, after these items.
 pub fn push_qualifiers(items: &mut Row<Item>, name: &Text, tree: &Tree) -> Result<(), NoMemory>
     ensures { OnOk result (items.new ≡ items.old ++ spec.tree_qualifiers name.now tree.now) }
 {

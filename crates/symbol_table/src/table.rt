@@ -135,7 +135,7 @@ struct Columns {
     decls: Row<Decl>,
 }
 
-// Adds a definition behind those before it.
+// Adds a definition after those before it.
 fn push_decl(alloc: Global, columns: &mut Columns, decl: Decl) -> Result<(), NoMemory>
     requires { list_any (path_eq decl.path) columns.old.paths.keys ≡ false }
     ensures paths { OnOk result (columns.new.paths.keys ≡ columns.old.paths.keys ++ decl.path ∷ []) }

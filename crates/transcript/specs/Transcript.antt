@@ -14,7 +14,7 @@ use Rattle.ask_history.specs.declared.script.Line.{Line}
 use Rattle.ask_history.specs.declared.script.Script.{Script}
 use Rattle.transcript.specs.Printed.{next, without_first, count_line, events_text, answer_text}
 
--- ---- the entry of a line
+-- ---- what is printed of a line
 
 -- NUMBER¦ANSWER, of the first answer that is left; nothing where none is
 abbrev pub answered_text : ℕ → List Answer → Bytes
@@ -26,7 +26,7 @@ abbrev pub refused_text : ℕ → Option ℕ → Bytes
 refused_text number None = []
 refused_text number (Some index) = decimal number ++ next ++ codes "refused" ++ next ++ codes "closed" ++ next ++ decimal index ++ line_end
 
--- The entry of the call line of a number, by its ticket: its answer where it was accepted and is settled.
+-- What the call line of a number prints, by its ticket: its answer where it was accepted and is settled.
 abbrev pub call_text : List Event → ℕ → List Answer → Option ℕ → Bytes
 call_text journal number answers None = refused_text number (close_index journal)
 call_text journal number answers (Some ticket) = if is_some (settle_index journal ticket) then answered_text number answers else []
@@ -51,13 +51,13 @@ close_text None = []
 close_text (Some index) = codes "close" ++ next ++ decimal index ++ line_end
 
 -- What a client's line prints, where its call lines so far and itself are so many. `wait` and `idle` print nothing.
-abbrev pub entry_text : List Event → ℕ → ℕ → List Answer → Order → Bytes
-entry_text journal client number answers (Call call) = call_text journal number answers (ticket_of journal client number)
-entry_text journal client number answers (Cancel tag) = cancel_text tag (outcome_of journal (ticket_of journal client tag))
-entry_text journal client number answers Close = close_text (close_index journal)
-entry_text _ _ _ _ _ = []
+abbrev pub line_printed : List Event → ℕ → ℕ → List Answer → Order → Bytes
+line_printed journal client number answers (Call call) = call_text journal number answers (ticket_of journal client number)
+line_printed journal client number answers (Cancel tag) = cancel_text tag (outcome_of journal (ticket_of journal client tag))
+line_printed journal client number answers Close = close_text (close_index journal)
+line_printed _ _ _ _ _ = []
 
--- ---- the entries of a client
+-- ---- what is printed of a client
 
 -- the answers that are left after a call line, by its ticket
 abbrev pub answers_left : List Event → List Answer → Option ℕ → List Answer
@@ -68,15 +68,15 @@ abbrev pub answers_after : List Event → ℕ → ℕ → List Answer → Order 
 answers_after journal client number answers (Call call) = answers_left journal answers (ticket_of journal client number)
 answers_after _ _ _ answers _ = answers
 
--- The entries of these lines in order. The next call line has this number, and these are the answers of the calls from
+-- What these lines print in order. The next call line has this number, and these are the answers of the calls from
 -- there on that are accepted and settled.
-abbrev pub entries_text : List Event → ℕ → ℕ → List Answer → List Line → Bytes
-entries_text journal client number answers [] = []
-entries_text journal client number answers (line ∷ lines) =
-    entry_text journal client number answers line.order
-    ++ entries_text journal client (number_after line.order number) (answers_after journal client number answers line.order) lines
+abbrev pub lines_printed : List Event → ℕ → ℕ → List Answer → List Line → Bytes
+lines_printed journal client number answers [] = []
+lines_printed journal client number answers (line ∷ lines) =
+    line_printed journal client number answers line.order
+    ++ lines_printed journal client (number_after line.order number) (answers_after journal client number answers line.order) lines
 
--- client¦C, and the entries of its script. `answers` has a row for each client, of which this is the first one's.
+-- client¦C, and what the lines of its script print. `answers` has a row for each client, of which this is the first one's.
 abbrev pub first_answers : List (List Answer) → List Answer
 first_answers [] = []
 first_answers (answers ∷ rows) = answers
@@ -84,7 +84,7 @@ first_answers (answers ∷ rows) = answers
 abbrev pub clients_text : List Event → ℕ → List (List Answer) → List Script → Bytes
 clients_text journal client rows [] = []
 clients_text journal client rows (script ∷ scripts) =
-    count_line (codes "client") client ++ entries_text journal client 1 (first_answers rows) script.lines
+    count_line (codes "client") client ++ lines_printed journal client 1 (first_answers rows) script.lines
     ++ clients_text journal (client + 1) (without_first rows) scripts
 
 -- ---- the session

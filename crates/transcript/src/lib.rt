@@ -7,14 +7,14 @@ ghost use Rattle.transcript.specs.Transcript.{session_text};
 
 mod answers;
 mod calls;
-mod entries;
+mod client_lines;
 mod fields;
 mod journal;
 mod names;
 mod outcomes;
 
 use ask_history::{Answer, Journal, Script};
-use entries::push_clients;
+use client_lines::push_clients;
 use fields::push_count;
 pub use journal::print_checked;
 use journal::push_events;
@@ -23,7 +23,7 @@ use pc_terms::{NoMemory, Problem, Row, Text};
 use std::alloc::Global;
 
 /// Prints a session: `journal` and its number of events, a line for each, and then for each script `client` and its
-/// number, from 0, and an entry for each of its lines; at last `end`.
+/// number, from 0, and what became of each of its lines; at last `end`.
 ///
 /// `answers` has a row for each client: the answers of its calls that were accepted and are settled, in the order of its
 /// script. A call without an answer there prints nothing. `problems` has a row for each check in order; a check without

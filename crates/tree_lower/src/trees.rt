@@ -55,7 +55,7 @@ fn higher(a: u32, b: u32) -> u32
     if a < b { b } else { a }
 }
 
-/// The trees, and those behind them.
+/// The trees, and those after them.
 pub fn appended(kids: Option<Kids>, behind: Option<Kids>) -> Result<Option<Kids>, NoMemory>
     ensures { IfOk result (λ all. all ≡ spec.appended kids behind) }
 {

@@ -27,41 +27,41 @@ use Rattle.work_queue.proofs.Queues.{reloads-push}
 
 -- ---- the names of the loaded files
 
-keys_of-put_file : (files : Sources) (entry : Bytes × Bytes) → keys_of (put_file files entry) ≡ with_name (keys_of files) entry
-keys_of-put_file [] entry = refl
-keys_of-put_file (file ∷ files) entry =
-    by (bytes_eq entry.0 file.0) refl (keys_of-put_file files entry)
+keys_of-put_file : (files : Sources) (pair : Bytes × Bytes) → keys_of (put_file files pair) ≡ with_name (keys_of files) pair
+keys_of-put_file [] pair = refl
+keys_of-put_file (file ∷ files) pair =
+    by (bytes_eq pair.0 file.0) refl (keys_of-put_file files pair)
   where
-    later : (b : Bool) → file.0 ∷ (if b then keys_of files else keys_of files ++ entry.0 ∷ []) ≡ (if b then file.0 ∷ keys_of files else (file.0 ∷ keys_of files) ++ entry.0 ∷ [])
+    later : (b : Bool) → file.0 ∷ (if b then keys_of files else keys_of files ++ pair.0 ∷ []) ≡ (if b then file.0 ∷ keys_of files else (file.0 ∷ keys_of files) ++ pair.0 ∷ [])
     later true = refl
     later false = refl
 
-    by : (b : Bool) → bytes_eq entry.0 file.0 ≡ b → keys_of (put_file files entry) ≡ with_name (keys_of files) entry
-        → keys_of (if b then (file.0, entry.1) ∷ files else file ∷ put_file files entry) ≡ with_name (file.0 ∷ keys_of files) entry
-    by true same rest = ap (λ b. if (b || list_any (bytes_eq entry.0) (keys_of files)) then file.0 ∷ keys_of files else (file.0 ∷ keys_of files) ++ entry.0 ∷ [])
+    by : (b : Bool) → bytes_eq pair.0 file.0 ≡ b → keys_of (put_file files pair) ≡ with_name (keys_of files) pair
+        → keys_of (if b then (file.0, pair.1) ∷ files else file ∷ put_file files pair) ≡ with_name (file.0 ∷ keys_of files) pair
+    by true same rest = ap (λ b. if (b || list_any (bytes_eq pair.0) (keys_of files)) then file.0 ∷ keys_of files else (file.0 ∷ keys_of files) ++ pair.0 ∷ [])
         (sym same)
     by false other rest = ap (λ (names : List Bytes). file.0 ∷ names) rest
-        ∙ later (list_any (bytes_eq entry.0) (keys_of files))
-        ∙ ap (λ b. if (b || list_any (bytes_eq entry.0) (keys_of files)) then file.0 ∷ keys_of files else (file.0 ∷ keys_of files) ++ entry.0 ∷ [])
+        ∙ later (list_any (bytes_eq pair.0) (keys_of files))
+        ∙ ap (λ b. if (b || list_any (bytes_eq pair.0) (keys_of files)) then file.0 ∷ keys_of files else (file.0 ∷ keys_of files) ++ pair.0 ∷ [])
         (sym other)
 
-keys_of-reloaded : (files : Sources) (entries : List (Bytes × Bytes)) → keys_of (reloaded files entries) ≡ fold with_name (keys_of files) entries
+keys_of-reloaded : (files : Sources) (pairs : List (Bytes × Bytes)) → keys_of (reloaded files pairs) ≡ fold with_name (keys_of files) pairs
 keys_of-reloaded files [] = refl
-keys_of-reloaded files (entry ∷ entries) = keys_of-reloaded (put_file files entry) entries ∙ ap (λ names. fold with_name names entries) (keys_of-put_file files entry)
+keys_of-reloaded files (pair ∷ pairs) = keys_of-reloaded (put_file files pair) pairs ∙ ap (λ names. fold with_name names pairs) (keys_of-put_file files pair)
 
-distinct-with_name : (names : List Bytes) (entry : Bytes × Bytes) → IsDistinct bytes_eq names → IsDistinct bytes_eq (with_name names entry)
-distinct-with_name names entry distinct = by (list_any (bytes_eq entry.0) names) refl
+distinct-with_name : (names : List Bytes) (pair : Bytes × Bytes) → IsDistinct bytes_eq names → IsDistinct bytes_eq (with_name names pair)
+distinct-with_name names pair distinct = by (list_any (bytes_eq pair.0) names) refl
   where
-    by : (b : Bool) → list_any (bytes_eq entry.0) names ≡ b → IsDistinct bytes_eq (if b then names else names ++ entry.0 ∷ [])
+    by : (b : Bool) → list_any (bytes_eq pair.0) names ≡ b → IsDistinct bytes_eq (if b then names else names ++ pair.0 ∷ [])
     by true there = distinct
-    by false absent = IsDistinct-push nat_list_eq_equiv names entry.0 distinct absent
+    by false absent = IsDistinct-push nat_list_eq_equiv names pair.0 distinct absent
 
-distinct-fold : (names : List Bytes) (entries : List (Bytes × Bytes)) → IsDistinct bytes_eq names → IsDistinct bytes_eq (fold with_name names entries)
+distinct-fold : (names : List Bytes) (pairs : List (Bytes × Bytes)) → IsDistinct bytes_eq names → IsDistinct bytes_eq (fold with_name names pairs)
 distinct-fold names [] distinct = distinct
-distinct-fold names (entry ∷ entries) distinct = distinct-fold (with_name names entry) entries (distinct-with_name names entry distinct)
+distinct-fold names (pair ∷ pairs) distinct = distinct-fold (with_name names pair) pairs (distinct-with_name names pair distinct)
 
 distinct-mutated : (files : Sources) (call : Call) → IsDistinct bytes_eq (keys_of files) → IsDistinct bytes_eq (keys_of (mutated files call))
-distinct-mutated files (Reload entries) distinct = subst (IsDistinct bytes_eq) (sym (keys_of-reloaded files entries)) (distinct-fold (keys_of files) entries distinct)
+distinct-mutated files (Reload pairs) distinct = subst (IsDistinct bytes_eq) (sym (keys_of-reloaded files pairs)) (distinct-fold (keys_of files) pairs distinct)
 distinct-mutated files (Remove names) distinct = IsDistinct-keys_filter bytes_eq (λ file. not (list_any (bytes_eq file.0) names)) files distinct
 distinct-mutated files (TypeAt file offset) distinct = distinct
 distinct-mutated files (MembersAt file offset) distinct = distinct
@@ -93,8 +93,8 @@ some_or b h c = ap (λ x. x || c) h
 -- what is loaded after a mutation was loaded before, or is one of its names
 named-mutated : (files : Sources) (call : Call) (name : Bytes) → list_any (bytes_eq name) (keys_of (mutated files call)) ≡ true
     → (list_any (bytes_eq name) (keys_of files) || is_some (longest (reloaded_by call) name)) ≡ true
-named-mutated files (Reload entries) name h =
-    sym (ap (list_any (bytes_eq name)) (keys_of-reloaded files entries) ∙ list_any-fold name (keys_of files) entries) ∙ h
+named-mutated files (Reload pairs) name h =
+    sym (ap (list_any (bytes_eq name)) (keys_of-reloaded files pairs) ∙ list_any-fold name (keys_of files) pairs) ∙ h
 named-mutated files (Remove names) name h = some_or _ (list_any-keys_filter (bytes_eq name) (λ file. not (list_any (bytes_eq file.0) names)) files h) false
 named-mutated files (TypeAt file offset) name h = some_or _ h false
 named-mutated files (MembersAt file offset) name h = some_or _ h false

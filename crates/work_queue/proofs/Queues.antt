@@ -48,7 +48,7 @@ module _ (old : Inside) (kept : IsQueue old) where
   queue-push event journal is no_accept no_close no_reload legal =
       let count : accepted journal ≡ accepted old.log =
       ap accepted is ∙ accepted-push old.log event ∙ ap (λ b. accepted old.log + cond b 1 0) no_accept ∙ add-zero (accepted old.log) in
-      let entries : reloads journal ≡ reloads old.log =
+      let pairs : reloads journal ≡ reloads old.log =
       ap reloads is ∙ reloads-push old.log event ∙ ap (λ es. reloads old.log ++ es) no_reload ∙ append-nil (reloads old.log) in
       let calls_same : (t : ℕ) → call_of journal t ≡ call_of old.log t =
       λ t. ap (λ js. call_of js t) is ∙ call_of-push old.log event t ∙ ap (first_of_two (call_of old.log t)) (call_under-none t event no_accept) ∙ two-none (call_of old.log t) in
@@ -61,7 +61,7 @@ module _ (old : Inside) (kept : IsQueue old) where
             ∙ is_settled-append old.log t (event ∷ []) (kept.answered (sym (ap is_closed is ∙ is_closed-push old.log event no_close) ∙ closed) t (omega arith));
         given = omega arith;
         within = kept.within;
-        tally = subst (λ es. IsTally es old.tally) (sym entries) kept.tally;
+        tally = subst (λ es. IsTally es old.tally) (sym pairs) kept.tally;
         sizes = λ t call there. kept.sizes t call (sym (calls_same t) ∙ there);
         named = λ t call there. kept.named t call (sym (calls_same t) ∙ there);
         calls = omega arith;
@@ -137,7 +137,7 @@ module _ (old : Inside) (kept : IsQueue old) (unclosed : is_closed old.log ≡ f
       let more : accepted (Close ∷ rest) ≡ 0 = sum_by-append (λ e. cond (is_accept e) 1 0) (Close ∷ []) rest ∙ ap (λ n. accepted (Close ∷ []) + n) (accepted-settled (open_below old.log (accepted old.log))) in
       let count : accepted journal ≡ accepted old.log =
       ap accepted is ∙ sum_by-append (λ e. cond (is_accept e) 1 0) old.log (Close ∷ rest) ∙ ap (λ n. accepted old.log + n) more ∙ add-zero (accepted old.log) in
-      let entries : reloads journal ≡ reloads old.log =
+      let pairs : reloads journal ≡ reloads old.log =
       ap reloads is ∙ flat_map-append reloaded_in old.log (Close ∷ rest) ∙ ap (λ es. reloads old.log ++ es) (reloads-settled (open_below old.log (accepted old.log)))
       ∙ append-nil (reloads old.log) in
       let calls_same : (t : ℕ) → call_of journal t ≡ call_of old.log t =
@@ -150,7 +150,7 @@ module _ (old : Inside) (kept : IsQueue old) (unclosed : is_closed old.log ≡ f
         answered = λ closed. answered;
         given = omega arith;
         within = kept.within;
-        tally = subst (λ es. IsTally es old.tally) (sym entries) kept.tally;
+        tally = subst (λ es. IsTally es old.tally) (sym pairs) kept.tally;
         sizes = λ t call there. kept.sizes t call (sym (calls_same t) ∙ there);
         named = λ t call there. kept.named t call (sym (calls_same t) ∙ there);
         calls = omega arith;

@@ -23,27 +23,27 @@ use Rattle.work_queue.specs.Refusal.{too_large, above, overfull, refusal}
 use Rattle.work_queue.proofs.Queues.{close_index-unclosed}
 
 -- where no text is too long, all of them take no more than their number times the longest
-text_bytes-le : (limit : ℕ) (entries : List (Bytes × Bytes)) → too_large limit entries ≡ None → text_bytes entries ≤ length entries * limit
+text_bytes-le : (limit : ℕ) (pairs : List (Bytes × Bytes)) → too_large limit pairs ≡ None → text_bytes pairs ≤ length pairs * limit
 text_bytes-le limit [] h = omega arith
-text_bytes-le limit (entry ∷ entries) h = by (nat_lt limit (length entry.1)) refl h (text_bytes-le limit entries)
+text_bytes-le limit (pair ∷ pairs) h = by (nat_lt limit (length pair.1)) refl h (text_bytes-le limit pairs)
   where
-    by : (b : Bool) → nat_lt limit (length entry.1) ≡ b → (if b then Some (length entry.1) else too_large limit entries) ≡ None
-        → (too_large limit entries ≡ None → text_bytes entries ≤ length entries * limit) → text_bytes (entry ∷ entries) ≤ length (entry ∷ entries) * limit
+    by : (b : Bool) → nat_lt limit (length pair.1) ≡ b → (if b then Some (length pair.1) else too_large limit pairs) ≡ None
+        → (too_large limit pairs ≡ None → text_bytes pairs ≤ length pairs * limit) → text_bytes (pair ∷ pairs) ≤ length (pair ∷ pairs) * limit
     by true long e rest = cc
     by false short e rest =
-        let here : length entry.1 ≤ limit = grind (arith, nat_tests) in
+        let here : length pair.1 ≤ limit = grind (arith, nat_tests) in
         let more = rest e in
-        let sum = sum_by-cons (λ (n : Bytes × Bytes). length n.1) entry entries in
-        let next : (length entries + 1) * limit ≡ length entries * limit + limit = omega arith in
-        let count : length (entry ∷ entries) * limit ≡ (length entries + 1) * limit = ap (λ n. n * limit) (let e : length (entry ∷ entries) ≡ length entries + 1 = omega arith in e) in
+        let sum = sum_by-cons (λ (n : Bytes × Bytes). length n.1) pair pairs in
+        let next : (length pairs + 1) * limit ≡ length pairs * limit + limit = omega arith in
+        let count : length (pair ∷ pairs) * limit ≡ (length pairs + 1) * limit = ap (λ n. n * limit) (let e : length (pair ∷ pairs) ≡ length pairs + 1 = omega arith in e) in
         omega arith
 
 -- so the texts of a call with fewer than 2 ^ 32 of them can be counted
-pub text_bytes-fits : (limit used : ℕ) (entries : List (Bytes × Bytes)) → too_large limit entries ≡ None → limit ≤ 262144 → length entries < 2 ^ 32 → used ≤ 268435456
-    → used + text_bytes entries < 2 ^ 64
-text_bytes-fits limit used entries h small few less =
-    let all = text_bytes-le limit entries h in
-    let most : length entries * limit ≤ 4294967296 * 262144 = mul-le-mul (let l : length entries ≤ 4294967296 = omega arith in l) small in
+pub text_bytes-fits : (limit used : ℕ) (pairs : List (Bytes × Bytes)) → too_large limit pairs ≡ None → limit ≤ 262144 → length pairs < 2 ^ 32 → used ≤ 268435456
+    → used + text_bytes pairs < 2 ^ 64
+text_bytes-fits limit used pairs h small few less =
+    let all = text_bytes-le limit pairs h in
+    let most : length pairs * limit ≤ 4294967296 * 262144 = mul-le-mul (let l : length pairs ≤ 4294967296 = omega arith in l) small in
     omega arith
 
 none_first : {X : Type 0} (a b : Option X) → option_or a b ≡ None → (a ≡ None) × (b ≡ None)
@@ -101,18 +101,18 @@ is_free limits journal call free =
 
 -- where no text is too long, the call has the sizes of files
 pub has_file_sizes : (limit : ℕ) → limit ≤ 262144 → (call : Call) → too_large limit (reloaded_by call) ≡ None → HasFileSizes call
-has_file_sizes limit most (Reload entries) h = each entries h
+has_file_sizes limit most (Reload pairs) h = each pairs h
   where
-    each : (entries : List (Bytes × Bytes)) → too_large limit entries ≡ None → All (λ entry. length entry.1 ≤ 262144) entries
-    each [] h = All-nil (λ (entry : Bytes × Bytes). length entry.1 ≤ 262144)
-    each (entry ∷ entries) h = by (nat_lt limit (length entry.1)) refl h (each entries)
+    each : (pairs : List (Bytes × Bytes)) → too_large limit pairs ≡ None → All (λ pair. length pair.1 ≤ 262144) pairs
+    each [] h = All-nil (λ (pair : Bytes × Bytes). length pair.1 ≤ 262144)
+    each (pair ∷ pairs) h = by (nat_lt limit (length pair.1)) refl h (each pairs)
       where
-        by : (b : Bool) → nat_lt limit (length entry.1) ≡ b → (if b then Some (length entry.1) else too_large limit entries) ≡ None
-            → (too_large limit entries ≡ None → All (λ e. length e.1 ≤ 262144) entries) → All (λ e. length e.1 ≤ 262144) (entry ∷ entries)
+        by : (b : Bool) → nat_lt limit (length pair.1) ≡ b → (if b then Some (length pair.1) else too_large limit pairs) ≡ None
+            → (too_large limit pairs ≡ None → All (λ e. length e.1 ≤ 262144) pairs) → All (λ e. length e.1 ≤ 262144) (pair ∷ pairs)
         by true long e rest = cc
         by false short e rest =
-            let here : length entry.1 ≤ limit = grind (arith, nat_tests) in
-            All-cons (λ (e : Bytes × Bytes). length e.1 ≤ 262144) entry entries (omega arith) (rest e)
+            let here : length pair.1 ≤ limit = grind (arith, nat_tests) in
+            All-cons (λ (e : Bytes × Bytes). length e.1 ≤ 262144) pair pairs (omega arith) (rest e)
 has_file_sizes limit most (Remove names) h = tt
 has_file_sizes limit most (TypeAt file offset) h = tt
 has_file_sizes limit most (MembersAt file offset) h = tt

@@ -48,32 +48,32 @@ same-again old mid new first second = record {
   room = λ name h. second.room name (first.room name h);
 }
 
--- room is kept, and made for one entry more
-pub has_room-more : (old new : Tally) (entries : List (Bytes × Bytes)) (i : ℕ) (entry : Bytes × Bytes) → ((name : Bytes) → has_room old name ≡ true → has_room new name ≡ true)
-    → i < length entries → entry ≡ get_or entries i entry → HasRoom (take i entries) old → has_room new entry.0 ≡ true → HasRoom (take (i + 1) entries) new
-has_room-more old new entries i entry keeps within read room here =
-    All-more (λ (e : Bytes × Bytes). has_room new e.0 ≡ true) entries i entry within (λ k d h. keeps (get_or (take i entries) k d).0 (room k d h))
+-- room is kept, and made for one pair more
+pub has_room-more : (old new : Tally) (pairs : List (Bytes × Bytes)) (i : ℕ) (pair : Bytes × Bytes) → ((name : Bytes) → has_room old name ≡ true → has_room new name ≡ true)
+    → i < length pairs → pair ≡ get_or pairs i pair → HasRoom (take i pairs) old → has_room new pair.0 ≡ true → HasRoom (take (i + 1) pairs) new
+has_room-more old new pairs i pair keeps within read room here =
+    All-more (λ (e : Bytes × Bytes). has_room new e.0 ≡ true) pairs i pair within (λ k d h. keeps (get_or (take i pairs) k d).0 (room k d h))
     (subst (λ (e : Bytes × Bytes). has_room new e.0 ≡ true) read here)
 
-module _ (start old new : Bytes → Option ℕ) (entries : List (Bytes × Bytes)) where
-  -- the longest texts, with one entry more
-  pub longest-more : (i : ℕ) (entry : Bytes × Bytes) → i < length entries → entry ≡ get_or entries i entry
-      → ((name : Bytes) → old name ≡ longer (start name) (longest (take i entries) name))
-      → ((name : Bytes) → new name ≡ longer (old name) (length_for entry name))
-      → (name : Bytes) → new name ≡ longer (start name) (longest (take (i + 1) entries) name)
-  longest-more i entry within read was now name =
-      let more = take_more entries i entry within ∙ ap (λ e. take i entries ++ e ∷ []) (sym read) in
-      now name ∙ ap (λ o. longer o (length_for entry name)) (was name)
-      ∙ sym (longer_assoc (start name) (longest (take i entries) name) (length_for entry name))
-      ∙ ap (longer (start name)) (sym (longest-push (take i entries) entry name) ∙ ap (λ es. longest es name) (sym more))
+module _ (start old new : Bytes → Option ℕ) (pairs : List (Bytes × Bytes)) where
+  -- the longest texts, with one pair more
+  pub longest-more : (i : ℕ) (pair : Bytes × Bytes) → i < length pairs → pair ≡ get_or pairs i pair
+      → ((name : Bytes) → old name ≡ longer (start name) (longest (take i pairs) name))
+      → ((name : Bytes) → new name ≡ longer (old name) (length_for pair name))
+      → (name : Bytes) → new name ≡ longer (start name) (longest (take (i + 1) pairs) name)
+  longest-more i pair within read was now name =
+      let more = take_more pairs i pair within ∙ ap (λ e. take i pairs ++ e ∷ []) (sym read) in
+      now name ∙ ap (λ o. longer o (length_for pair name)) (was name)
+      ∙ sym (longer_assoc (start name) (longest (take i pairs) name) (length_for pair name))
+      ∙ ap (longer (start name)) (sym (longest-push (take i pairs) pair name) ∙ ap (λ es. longest es name) (sym more))
 
--- all entries are taken in
-pub all_taken_in : (old new : Tally) (entries : List (Bytes × Bytes)) (i : ℕ) → length entries ≤ i
-    → ((name : Bytes) → known new name ≡ longer (known old name) (longest (take i entries) name))
-    → (before : List (Bytes × Bytes)) → IsTally before old → new.usage ≡ usage_of (before ++ entries) → IsTally (before ++ entries) new
-all_taken_in old new entries i all now before tallied usage = record {
+-- all pairs are taken in
+pub all_taken_in : (old new : Tally) (pairs : List (Bytes × Bytes)) (i : ℕ) → length pairs ≤ i
+    → ((name : Bytes) → known new name ≡ longer (known old name) (longest (take i pairs) name))
+    → (before : List (Bytes × Bytes)) → IsTally before old → new.usage ≡ usage_of (before ++ pairs) → IsTally (before ++ pairs) new
+all_taken_in old new pairs i all now before tallied usage = record {
   usage = usage;
-  longest = λ name. now name ∙ (λ j. longer (tallied.longest name j) (longest (take_all i entries all j) name)) ∙ sym (longest-append before entries name);
+  longest = λ name. now name ∙ (λ j. longer (tallied.longest name j) (longest (take_all i pairs all j) name)) ∙ sym (longest-append before pairs name);
 }
 
 -- a tally with the same entries tells the same

@@ -23,7 +23,7 @@ pub record IsWithin (limits : Limits) : Type 0 where
 -- the length of the first text that is longer than a file may be
 abbrev pub too_large : ℕ → List (Bytes × Bytes) → Option ℕ
 too_large limit [] = None
-too_large limit (entry ∷ entries) = if nat_lt limit (length entry.1) then Some (length entry.1) else too_large limit entries
+too_large limit (pair ∷ pairs) = if nat_lt limit (length pair.1) then Some (length pair.1) else too_large limit pairs
 
 -- a number that is above its limit
 abbrev pub above : ℕ → ℕ → Option ℕ

@@ -11,7 +11,7 @@ use Rattle.work_queue.specs.declared.usage.Usage.{Usage}
 
 -- the names and texts that a call reloads
 abbrev pub reloaded_by : Call → List (Bytes × Bytes)
-reloaded_by (Reload entries) = entries
+reloaded_by (Reload pairs) = pairs
 reloaded_by _ = []
 
 abbrev pub reloaded_in : Event → List (Bytes × Bytes)
@@ -24,35 +24,35 @@ reloads journal = flat_map reloaded_in journal
 
 -- The bytes of all texts.
 abbrev pub text_bytes : List (Bytes × Bytes) → ℕ
-text_bytes entries = sum_by (λ entry. length entry.1) entries
+text_bytes pairs = sum_by (λ pair. length pair.1) pairs
 
 abbrev pub longer : Option ℕ → Option ℕ → Option ℕ
 longer None b = b
 longer (Some a) None = Some a
 longer (Some a) (Some b) = Some (max a b)
 
--- the length of an entry's text, where it is of this name
+-- the length of a pair's text, where it is of this name
 abbrev pub length_for : Bytes × Bytes → Bytes → Option ℕ
-length_for entry name = if bytes_eq entry.0 name then Some (length entry.1) else None
+length_for pair name = if bytes_eq pair.0 name then Some (length pair.1) else None
 
 -- The length of a name's longest text, where one is reloaded.
 abbrev pub longest : List (Bytes × Bytes) → Bytes → Option ℕ
 longest [] name = None
-longest (entry ∷ entries) name = longer (length_for entry name) (longest entries name)
+longest (pair ∷ pairs) name = longer (length_for pair name) (longest pairs name)
 
 abbrev pub with_name : List Bytes → Bytes × Bytes → List Bytes
-with_name names entry = if list_any (bytes_eq entry.0) names then names else names ++ entry.0 ∷ []
+with_name names pair = if list_any (bytes_eq pair.0) names then names else names ++ pair.0 ∷ []
 
 -- The names, each once.
 abbrev pub names_of : List (Bytes × Bytes) → List Bytes
-names_of entries = fold with_name [] entries
+names_of pairs = fold with_name [] pairs
 
 -- The longest texts of all names, together.
 abbrev pub map_bytes : List (Bytes × Bytes) → ℕ
-map_bytes entries = sum_by (λ name. unwrap_or (longest entries name) 0) (names_of entries)
+map_bytes pairs = sum_by (λ name. unwrap_or (longest pairs name) 0) (names_of pairs)
 
 abbrev pub usage_of : List (Bytes × Bytes) → Usage
-usage_of entries = record { text = text_bytes entries; names = length (names_of entries); map = map_bytes entries }
+usage_of pairs = record { text = text_bytes pairs; names = length (names_of pairs); map = map_bytes pairs }
 
 -- with one text more, of this length, where the longest text of its name is this long so far
 abbrev pub with_text : Usage → Option ℕ → ℕ → Usage

@@ -1,4 +1,4 @@
--- What a tally keeps of reloaded entries.
+-- What a tally keeps of reloaded pairs.
 use Rattle.std.specs.Prelude.{◌≡◌, ◌<◌, ℕ, ◌+◌, ◌^◌, List, length, Option, Some, None, Bool, true, is_some, All, if◌then◌else◌}
 use Rattle.std.specs.Str.{bytes_eq}
 use Rattle.indexmap.specs.IndexMap.{get_by_text}
@@ -15,23 +15,23 @@ kept (Some most) = most
 abbrev pub known : Tally → Bytes → Option ℕ
 known tally name = kept (get_by_text tally.longest name)
 
--- the tally is of these entries
-pub record IsTally (entries : List (Bytes × Bytes)) (tally : Tally) : Type 0 where
-  pub usage : tally.usage ≡ usage_of entries
-  pub longest : (name : Bytes) → known tally name ≡ longest entries name
+-- the tally is of these pairs
+pub record IsTally (pairs : List (Bytes × Bytes)) (tally : Tally) : Type 0 where
+  pub usage : tally.usage ≡ usage_of pairs
+  pub longest : (name : Bytes) → known tally name ≡ longest pairs name
 
--- With these entries too the counts fit 64 bits.
-pub record AreCountable (usage : Usage) (entries : List (Bytes × Bytes)) : Type 0 where
-  pub text : usage.text + text_bytes entries < 2 ^ 64
-  pub names : usage.names + length entries < 2 ^ 64
-  pub map : usage.map + text_bytes entries < 2 ^ 64
+-- With these pairs too the counts fit 64 bits.
+pub record AreCountable (usage : Usage) (pairs : List (Bytes × Bytes)) : Type 0 where
+  pub text : usage.text + text_bytes pairs < 2 ^ 64
+  pub names : usage.names + length pairs < 2 ^ 64
+  pub map : usage.map + text_bytes pairs < 2 ^ 64
 
 -- whether room is made for a name
 abbrev pub has_room : Tally → Bytes → Bool
 has_room tally name = is_some (get_by_text tally.longest name)
 
 abbrev pub HasRoom : List (Bytes × Bytes) → Tally → Type 0
-HasRoom entries tally = All (λ entry. has_room tally entry.0 ≡ true) entries
+HasRoom pairs tally = All (λ pair. has_room tally pair.0 ≡ true) pairs
 
 -- the new tally tells the same, and has no less room
 pub record TellsSame (old new : Tally) : Type 0 where

@@ -21,17 +21,17 @@ pub fn reloaded(call: &Call) -> &[(Text, Text)]
     ensures { result.now ≡ reloaded_by call.now }
 {
     match call {
-        Call::Reload(entries) => entries.as_slice(),
+        Call::Reload(pairs) => pairs.as_slice(),
         _ => &[],
     }
 }
 
 /// The length of the first text that is longer than `limit` bytes.
-pub fn too_large(limit: u64, entries: &[(Text, Text)]) -> Option<u64>
-    ensures { result ≡ too_large limit entries.now }
+pub fn too_large(limit: u64, pairs: &[(Text, Text)]) -> Option<u64>
+    ensures { result ≡ too_large limit pairs.now }
 {
-    for entry in entries {
-        let len = entry.1.len() as u64;
+    for pair in pairs {
+        let len = pair.1.len() as u64;
         if limit < len {
             return Some(len);
         }

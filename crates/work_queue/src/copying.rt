@@ -5,13 +5,13 @@ use ask_history::Call;
 use pc_terms::{NoMemory, Row, Text};
 use std::alloc::Global;
 
-fn copied_entries(alloc: Global, entries: &[(Text, Text)]) -> Result<Row<(Text, Text)>, NoMemory>
-    ensures { IfOk result (λ copy. copy ≡ entries.now) }
+fn copied_pairs(alloc: Global, pairs: &[(Text, Text)]) -> Result<Row<(Text, Text)>, NoMemory>
+    ensures { IfOk result (λ copy. copy ≡ pairs.now) }
 {
     let mut copy = Row::new(alloc);
-    for entry in entries {
-        let name = entry.0.clone()?;
-        let text = entry.1.clone()?;
+    for pair in pairs {
+        let name = pair.0.clone()?;
+        let text = pair.1.clone()?;
         copy.push((name, text))?;
     }
     Ok(copy)
@@ -32,7 +32,7 @@ pub fn copied(alloc: Global, call: &Call) -> Result<Call, NoMemory>
     ensures { IfOk result (λ copy. copy ≡ call.now) }
 {
     Ok(match call {
-        Call::Reload(entries) => Call::Reload(copied_entries(alloc, entries.as_slice())?),
+        Call::Reload(pairs) => Call::Reload(copied_pairs(alloc, pairs.as_slice())?),
         Call::Remove(names) => Call::Remove(copied_names(alloc, names.as_slice())?),
         Call::TypeAt(file, offset) => Call::TypeAt(file.clone()?, *offset),
         Call::MembersAt(file, offset) => Call::MembersAt(file.clone()?, *offset),

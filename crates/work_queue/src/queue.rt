@@ -87,15 +87,15 @@ impl Queue {
         if let Some(index) = self.log.close_index() {
             return Err(PostRefused::Closed(index));
         }
-        let entries = reloaded(call);
-        if let Some(size) = too_large(self.limits.file, entries) {
+        let pairs = reloaded(call);
+        if let Some(size) = too_large(self.limits.file, pairs) {
             return Err(PostRefused::TooLarge(size));
         }
         let count = self.accepted();
         if count == self.limits.calls {
             return Err(PostRefused::CallsFull(count));
         }
-        let usage = self.tally.usage_with(entries);
+        let usage = self.tally.usage_with(pairs);
         match overfull(self.limits, usage) {
             Some(why) => Err(why),
             None => Ok(usage),
@@ -181,7 +181,7 @@ impl Queue {
         self.log.is_cancelled(ticket)
     }
 
-    /// Whether the ticket is settled, as every accepted one is behind the shutdown.
+    /// Whether the ticket is settled, as every accepted one is after the shutdown.
     pub fn is_settled(&self, ticket: u64) -> bool
         ensures settled { result ≡ is_settled self.now.journal ticket }
         ensures shut { is_closed self.now.journal ≡ true → ticket < accepted self.now.journal → result ≡ true }

@@ -16,7 +16,7 @@ pub struct Tally {
     pub longest: IndexMap<String, Option<u64>>,
 }
 
-/// Up to this many entries are compared with each other, and an index is made of more.
+/// Up to this many pairs are compared with each other, and an index is made of more.
 const FEW: usize = 8;
 
 impl Tally {
@@ -41,45 +41,45 @@ impl Tally {
         self.longest.get(name).copied().flatten()
     }
 
-    /// What the session would take up with these entries too. It takes no memory: where an index of the entries
+    /// What the session would take up with these pairs too. It takes no memory: where an index of the pairs
     /// cannot be made, their names are compared with each other.
-    pub fn usage_with(&self, entries: &[(Text, Text)]) -> Usage
-        requires { AreCountable self.now.usage entries.now }
-        ensures { (before : List (Bytes × Bytes)) → IsTally before self.now → result ≡ usage_of (before ++ entries.now) }
+    pub fn usage_with(&self, pairs: &[(Text, Text)]) -> Usage
+        requires { AreCountable self.now.usage pairs.now }
+        ensures { (before : List (Bytes × Bytes)) → IsTally before self.now → result ≡ usage_of (before ++ pairs.now) }
     {
-        if entries.len() <= FEW {
-            return self.compared_usage(entries);
+        if pairs.len() <= FEW {
+            return self.compared_usage(pairs);
         }
-        match self.indexed_usage(entries) {
+        match self.indexed_usage(pairs) {
             Ok(usage) => usage,
-            Err(_) => self.compared_usage(entries),
+            Err(_) => self.compared_usage(pairs),
         }
     }
 
     /// As `usage_with`, by a comparison of each name with those before it.
-    fn compared_usage(&self, entries: &[(Text, Text)]) -> Usage
-        requires { AreCountable self.now.usage entries.now }
-        ensures { (before : List (Bytes × Bytes)) → IsTally before self.now → result ≡ usage_of (before ++ entries.now) }
+    fn compared_usage(&self, pairs: &[(Text, Text)]) -> Usage
+        requires { AreCountable self.now.usage pairs.now }
+        ensures { (before : List (Bytes × Bytes)) → IsTally before self.now → result ≡ usage_of (before ++ pairs.now) }
     {
         let mut usage = self.usage;
-        for (i, entry) in entries.iter().enumerate() {
-            let name = entry.0.as_str();
-            let most = longer(self.known(name), longest_among(&entries[..i], name));
-            usage = usage.with_text(most, entry.1.len() as u64);
+        for (i, pair) in pairs.iter().enumerate() {
+            let name = pair.0.as_str();
+            let most = longer(self.known(name), longest_among(&pairs[..i], name));
+            usage = usage.with_text(most, pair.1.len() as u64);
         }
         usage
     }
 
     /// As `usage_with`, by an index of the names so far.
-    fn indexed_usage(&self, entries: &[(Text, Text)]) -> Result<Usage, NoMemory>
-        requires { AreCountable self.now.usage entries.now }
-        ensures { IfOk result (λ usage. (before : List (Bytes × Bytes)) → IsTally before self.now → usage ≡ usage_of (before ++ entries.now)) }
+    fn indexed_usage(&self, pairs: &[(Text, Text)]) -> Result<Usage, NoMemory>
+        requires { AreCountable self.now.usage pairs.now }
+        ensures { IfOk result (λ usage. (before : List (Bytes × Bytes)) → IsTally before self.now → usage ≡ usage_of (before ++ pairs.now)) }
     {
         let mut usage = self.usage;
         let mut seen: IndexMap<&str, u64> = IndexMap::new(*self.longest.allocator());
-        for (i, entry) in entries.iter().enumerate() {
-            let name = entry.0.as_str();
-            let len = entry.1.len() as u64;
+        for (i, pair) in pairs.iter().enumerate() {
+            let name = pair.0.as_str();
+            let len = pair.1.len() as u64;
             let among = seen.get(name).copied();
             let most = longer(self.known(name), among);
             usage = usage.with_text(most, len);
@@ -88,17 +88,17 @@ impl Tally {
         Ok(usage)
     }
 
-    /// Makes room for the names of these entries. The tally tells the same as before; out of memory it keeps no name.
-    pub fn make_room(&mut self, entries: &[(Text, Text)]) -> Result<(), NoMemory>
+    /// Makes room for the names of these pairs. The tally tells the same as before; out of memory it keeps no name.
+    pub fn make_room(&mut self, pairs: &[(Text, Text)]) -> Result<(), NoMemory>
         ensures same { (before : List (Bytes × Bytes)) → IsTally before self.old → IsTally before self.new }
-        ensures room { OnOk result (HasRoom entries.now self.new) }
+        ensures room { OnOk result (HasRoom pairs.now self.new) }
         ensures err { OnErr result (self.new.longest.entries ≡ self.old.longest.entries) }
         ensures usage { self.new.usage ≡ self.old.usage }
         ensures names { take (length self.old.longest.entries) self.new.longest.entries ≡ self.old.longest.entries }
     {
         let names = self.longest.len();
-        for entry in entries {
-            if self.make_room_for(entry.0.as_str()).is_err() {
+        for pair in pairs {
+            if self.make_room_for(pair.0.as_str()).is_err() {
                 self.longest.truncate(names);
                 return Err(NoMemory {});
             }
@@ -127,13 +127,13 @@ impl Tally {
         self.longest.truncate(names);
     }
 
-    /// Takes these entries in, for whose names room is made. It takes no memory.
-    pub fn take_in(&mut self, entries: &[(Text, Text)], usage: Usage)
-        requires { HasRoom entries.now self.old }
-        ensures { (before : List (Bytes × Bytes)) → IsTally before self.old → usage ≡ usage_of (before ++ entries.now) → IsTally (before ++ entries.now) self.new }
+    /// Takes these pairs in, for whose names room is made. It takes no memory.
+    pub fn take_in(&mut self, pairs: &[(Text, Text)], usage: Usage)
+        requires { HasRoom pairs.now self.old }
+        ensures { (before : List (Bytes × Bytes)) → IsTally before self.old → usage ≡ usage_of (before ++ pairs.now) → IsTally (before ++ pairs.now) self.new }
     {
-        for entry in entries {
-            self.raise(entry.0.as_str(), entry.1.len() as u64);
+        for pair in pairs {
+            self.raise(pair.0.as_str(), pair.1.len() as u64);
         }
         self.usage = usage;
     }
@@ -160,22 +160,22 @@ fn longer(a: Option<u64>, b: Option<u64>) -> Option<u64>
 }
 
 /// The length of the longest text of this name.
-fn longest_among(entries: &[(Text, Text)], name: &str) -> Option<u64>
-    ensures { result ≡ longest entries.now name.now }
+fn longest_among(pairs: &[(Text, Text)], name: &str) -> Option<u64>
+    ensures { result ≡ longest pairs.now name.now }
 {
     let mut most = None;
-    for entry in entries {
-        most = longer(most, length_for(entry, name));
+    for pair in pairs {
+        most = longer(most, length_for(pair, name));
     }
     most
 }
 
-/// The length of an entry's text, where it is of this name.
-fn length_for(entry: &(Text, Text), name: &str) -> Option<u64>
-    ensures { result ≡ length_for entry.now name.now }
+/// The length of a pair's text, where it is of this name.
+fn length_for(pair: &(Text, Text), name: &str) -> Option<u64>
+    ensures { result ≡ length_for pair.now name.now }
 {
-    if entry.0.as_str() == name {
-        Some(entry.1.len() as u64)
+    if pair.0.as_str() == name {
+        Some(pair.1.len() as u64)
     } else {
         None
     }

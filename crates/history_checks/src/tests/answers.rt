@@ -1,7 +1,7 @@
 //! Answers and problems, as they are printed.
 
 use super::found::{Definition, Finding, Found, Member, Name, Step, Tree, Type};
-use super::sessions::{A, Asked, B, Entry, FileName, Happened, Session, Wanted, agree};
+use super::sessions::{A, Asked, B, FileName, Happened, Pair, Session, Wanted, agree};
 use pc_terms::{Code, SymKind, TreeKind};
 use std::process::Abort;
 use std::test::Fail;
@@ -13,7 +13,7 @@ static CALLS_AND_A_TREE: Session = Session {
             0,
             0,
             1,
-            Asked::Reload(&[Entry("A.scala", A), Entry("B.scala", B)]),
+            Asked::Reload(&[Pair("A.scala", A), Pair("B.scala", B)]),
         ),
         Happened::Done(0),
         Happened::Accept(1, 0, 2, Asked::TypeAt("A.scala", 19)),

@@ -1,13 +1,13 @@
 //! What became of each line of a client.
 
 use super::found::Found;
-use super::sessions::{A, Asked, Entry, Happened, Session, Wanted, agree};
+use super::sessions::{A, Asked, Happened, Pair, Session, Wanted, agree};
 use std::test::Fail;
 
 static CANCEL_INSIDE: Session = Session {
     scripts: &[&[Wanted::Call, Wanted::Call, Wanted::Cancel(2)]],
     events: &[
-        Happened::Accept(0, 0, 1, Asked::Reload(&[Entry("A.scala", A)])),
+        Happened::Accept(0, 0, 1, Asked::Reload(&[Pair("A.scala", A)])),
         Happened::Done(0),
         Happened::Accept(1, 0, 2, Asked::TypeAt("A.scala", 19)),
         Happened::Cancel(1),
@@ -74,7 +74,7 @@ static SHUTDOWN: Session = Session {
         Wanted::Wait(5),
     ]],
     events: &[
-        Happened::Accept(0, 0, 1, Asked::Reload(&[Entry("A.scala", A)])),
+        Happened::Accept(0, 0, 1, Asked::Reload(&[Pair("A.scala", A)])),
         Happened::Done(0),
         Happened::Accept(1, 0, 2, Asked::TypeAt("A.scala", 19)),
         Happened::Accept(2, 0, 3, Asked::TypeAt("A.scala", 15)),
@@ -149,7 +149,7 @@ static CLIENTS: Session = Session {
         &[],
     ],
     events: &[
-        Happened::Accept(0, 0, 1, Asked::Reload(&[Entry("A.scala", A)])),
+        Happened::Accept(0, 0, 1, Asked::Reload(&[Pair("A.scala", A)])),
         Happened::Done(0),
         Happened::Accept(1, 1, 1, Asked::TypeAt("A.scala", 19)),
         Happened::Accept(2, 0, 2, Asked::TypeAt("A.scala", 23)),

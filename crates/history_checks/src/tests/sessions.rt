@@ -23,13 +23,13 @@ pub enum Wanted {
 }
 
 /// A name and a text.
-pub struct Entry(pub &'static str, pub &'static str);
+pub struct Pair(pub &'static str, pub &'static str);
 
 pub struct FileName(pub &'static str);
 
 /// What a call asks for.
 pub enum Asked {
-    Reload(&'static [Entry]),
+    Reload(&'static [Pair]),
     Remove(&'static [FileName]),
     TypeAt(&'static str, u32),
     MembersAt(&'static str, u32),
@@ -78,7 +78,7 @@ impl Make for Wanted {
     }
 }
 
-impl Make for Entry {
+impl Make for Pair {
     type Made = (Text, Text);
 
     fn make(&self, alloc: Global) -> Result<(Text, Text), NoMemory> {
@@ -99,7 +99,7 @@ impl Make for Asked {
 
     fn make(&self, alloc: Global) -> Result<Call, NoMemory> {
         match self {
-            Asked::Reload(entries) => Ok(Call::Reload(made(alloc, entries)?)),
+            Asked::Reload(pairs) => Ok(Call::Reload(made(alloc, pairs)?)),
             Asked::Remove(names) => Ok(Call::Remove(made(alloc, names)?)),
             Asked::TypeAt(file, offset) => Ok(Call::TypeAt(Text::new(alloc, file)?, *offset)),
             Asked::MembersAt(file, offset) => Ok(Call::MembersAt(Text::new(alloc, file)?, *offset)),

@@ -1,7 +1,7 @@
 use Rattle.std.proofs.Common.{◌≡◌, take}
-use Rattle.compiler_loop.specs.CoreParts.{entries_of}
+use Rattle.compiler_loop.specs.CoreParts.{pairs_of}
 use Rattle.compiler_loop.proofs.copying.new_files.Given as goal
 
--- the entries so far are copied
+-- the pairs so far are copied
 abbrev pub invariant-loop-name : goal.invariant-loop-name
-invariant-loop-name l = entries_of l.files.items ≡ take l.name-index l.entries
+invariant-loop-name l = pairs_of l.files.items ≡ take l.name-index l.pairs

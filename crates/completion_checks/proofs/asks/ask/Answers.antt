@@ -9,5 +9,5 @@ use Rattle.completion_checks.proofs.asks.ask.Goals as goal
 pub complete-requires-clause-listed : goal.complete-requires-clause-listed
 complete-requires-clause-listed c =
     let needs = c.args.graph.now.needs.items in
-    let below : c.args.place < length needs = omega (arith, c.if-place-len.false, c.len.ensures) in
-    ap (λ f. is_item item_eq (nodes (length needs)) (item.Qualifier f c.args.place)) c.in_ok-new.ensures ∙ node-listed (length needs) c.args.place below
+    let below : c.args.node < length needs = omega (arith, c.if-node-len.false, c.len.ensures) in
+    ap (λ f. is_item item_eq (nodes (length needs)) (item.Qualifier f c.args.node)) c.in_ok-new.ensures ∙ node-listed (length needs) c.args.node below

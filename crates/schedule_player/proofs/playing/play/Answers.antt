@@ -20,7 +20,7 @@ pub returns-clause-owed : goal.returns-clause-owed
 returns-clause-owed g c =
     owes_played g.N.Engine.answer_of g.N.Engine.problems_of c.args.lines c.into_played.result c.play_lines.new.self c.give_up.new.self _ _ c.play_lines.ensures.in_step c.play_lines.ensures.cut
     (λ h. on_ok c.play_lines.result (IsPlayed c.args.lines c.play_lines.new.self) c.play_lines.ensures.whole (sym c.is_ok-whole.ensures.value ∙ sym c.into_played.ensures.whole ∙ h))
-    c.give_up.ensures.in_step c.give_up.ensures.frames c.give_up.ensures.settles c.give_up.ensures.none c.into_played.ensures.journal c.into_played.ensures.answers c.into_played.ensures.problems
+    c.give_up.ensures.in_step c.give_up.ensures.outers c.give_up.ensures.settles c.give_up.ensures.none c.into_played.ensures.journal c.into_played.ensures.answers c.into_played.ensures.problems
 
 pub returns-clause-told : goal.returns-clause-told
 returns-clause-told g c =

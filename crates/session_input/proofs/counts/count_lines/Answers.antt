@@ -1,7 +1,7 @@
 use Rattle.std.proofs.Common.{◌+◌, ◌<◌, ◌≤◌, List, length, map, take, drop, take_all, ◌∙◌, ap, sym, subst, arith}
 use Rattle.std.proofs.lemmas.List.{map-append}
 use Rattle.pc_terms.specs.Bytes.{Bytes}
-use Rattle.script_text.specs.Texts.{entry_with}
+use Rattle.script_text.specs.Texts.{pair_with}
 use Rattle.ask_history.specs.declared.script.Line.{Line}
 use Rattle.session_input.specs.Sources.{pairs_of, pairs_in}
 use Rattle.session_input.specs.Counts.{CountsMore, HaveTexts}
@@ -15,7 +15,7 @@ count_pairs-requires-clause-room c =
     let i = c.loop-line.line-index in
     let line = c.line-item.result in
     let within : i < length lines = omega arith in
-    rw c.pairs_of.ensures (room_part (entry_with c.args.sources.now.entries) (pairs_in (take i lines)) (pairs_of line.order) (pairs_in (drop (i + 1) lines)) (pairs_in lines)
+    rw c.pairs_of.ensures (room_part (pair_with c.args.sources.now.entries) (pairs_in (take i lines)) (pairs_of line.order) (pairs_in (drop (i + 1) lines)) (pairs_in lines)
     (pairs_in-split lines i line within c.line-item.is) c.loop-line.invariant
     c.requires.room)
 
@@ -30,7 +30,7 @@ count_pairs-requires-clause-texts c =
 
 pub loop-line-preserved : goal.loop-line-preserved
 loop-line-preserved c =
-    let with_texts = entry_with c.args.sources.now.entries in
+    let with_texts = pair_with c.args.sources.now.entries in
     let lines = c.args.lines.now in
     let i = c.loop-line.line-index in
     let line = c.line-item.result in
@@ -44,4 +44,4 @@ returns c =
     let sources = c.args.sources.now.entries in
     let lines = c.args.lines.now in
     let all : length lines ≤ c.loop-line.line-index = omega arith in
-    subst (λ (ls : List Line). CountsMore (map (entry_with sources) (pairs_in ls)) c.args.counts.now c.loop-line.counts) (take_all c.loop-line.line-index lines all) c.loop-line.invariant
+    subst (λ (ls : List Line). CountsMore (map (pair_with sources) (pairs_in ls)) c.args.counts.now c.loop-line.counts) (take_all c.loop-line.line-index lines all) c.loop-line.invariant

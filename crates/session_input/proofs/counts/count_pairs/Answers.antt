@@ -1,6 +1,6 @@
 use Rattle.std.proofs.Common.{◌+◌, ◌<◌, ◌∷◌, [], length, map, take, drop, ◌∙◌, ap, arith}
 use Rattle.std.proofs.lemmas.List.{map-append}
-use Rattle.script_text.specs.Texts.{entry_with}
+use Rattle.script_text.specs.Texts.{pair_with}
 use Rattle.script_text.proofs.TextLemmas.{take_one_more}
 use Rattle.session_input.proofs.SourceLemmas.{split_at_item}
 use Rattle.session_input.proofs.CountLemmas.{counts-more, room_part}
@@ -12,11 +12,11 @@ count_pair-requires-clause-room c =
     let i = c.loop-pair.pair-index in
     let pair = c.pair-item.result in
     let within : i < length pairs = omega arith in
-    room_part (entry_with c.args.sources.now.entries) (take i pairs) (pair ∷ []) (drop (i + 1) pairs) pairs (split_at_item pairs i pair within c.pair-item.is) c.loop-pair.invariant c.requires.room
+    room_part (pair_with c.args.sources.now.entries) (take i pairs) (pair ∷ []) (drop (i + 1) pairs) pairs (split_at_item pairs i pair within c.pair-item.is) c.loop-pair.invariant c.requires.room
 
 pub loop-pair-preserved : goal.loop-pair-preserved
 loop-pair-preserved c =
-    let with_texts = entry_with c.args.sources.now.entries in
+    let with_texts = pair_with c.args.sources.now.entries in
     let pairs = c.args.pairs.now in
     let i = c.loop-pair.pair-index in
     let pair = c.pair-item.result in

@@ -1,7 +1,7 @@
 use Rattle.std.proofs.Common.{◌+◌, ◌<◌, ◌≤◌, [], List, length, map, take, drop, take_all, ◌∙◌, ap, sym, subst, arith}
 use Rattle.std.proofs.lemmas.List.{map-append}
 use Rattle.pc_terms.specs.Bytes.{Bytes}
-use Rattle.script_text.specs.Texts.{entry_with}
+use Rattle.script_text.specs.Texts.{pair_with}
 use Rattle.work_queue.specs.Reloads.{usage_of}
 use Rattle.session_input.specs.Sources.{pairs_in, lines_in}
 use Rattle.session_input.specs.Counts.{HaveTexts}
@@ -15,7 +15,7 @@ count_lines-requires-clause-room c =
     let i = c.loop-script.script-index in
     let script = c.script-item.result in
     let within : i < length scripts = omega arith in
-    rw c.as_slice.ensures (room_part (entry_with c.args.sources.now.entries) (pairs_in (lines_in (take i scripts))) (pairs_in script.lines) (pairs_in (lines_in (drop (i + 1) scripts))) (pairs_in (lines_in scripts))
+    rw c.as_slice.ensures (room_part (pair_with c.args.sources.now.entries) (pairs_in (lines_in (take i scripts))) (pairs_in script.lines) (pairs_in (lines_in (drop (i + 1) scripts))) (pairs_in (lines_in scripts))
     (pairs_in_scripts-split scripts i script within c.script-item.is) c.loop-script.invariant
     (rw c.no_counts-counts.ensures.usage (record { text = omega (arith, c.requires.few); names = omega (arith, c.requires.few); map = omega (arith, c.requires.few) })))
 
@@ -30,7 +30,7 @@ count_lines-requires-clause-texts c =
 
 pub loop-script-preserved : goal.loop-script-preserved
 loop-script-preserved c =
-    let with_texts = entry_with c.args.sources.now.entries in
+    let with_texts = pair_with c.args.sources.now.entries in
     let scripts = c.args.scripts.now in
     let i = c.loop-script.script-index in
     let script = c.script-item.result in
@@ -45,5 +45,5 @@ returns c =
     let scripts = c.args.scripts.now in
     let all : length scripts ≤ c.loop-script.script-index = omega arith in
     let counted = c.loop-script.invariant.counted [] (counted-nothing _ c.no_counts-counts.ensures.usage c.no_counts-counts.ensures.longest) in
-    counted.usage ∙ ap (λ ss. usage_of (map (entry_with sources) (pairs_in (lines_in ss)))) (take_all c.loop-script.script-index scripts all)
+    counted.usage ∙ ap (λ ss. usage_of (map (pair_with sources) (pairs_in (lines_in ss)))) (take_all c.loop-script.script-index scripts all)
     ∙ ap usage_of (sym (pairs_in_scripts-with sources scripts))

@@ -2,5 +2,5 @@ use Rattle.std.proofs.Common.{◌≡◌, drop}
 use Rattle.work_queue.specs.Refusal.{too_large}
 use Rattle.work_queue.proofs.calls.too_large.Given as goal
 
-abbrev pub invariant-loop-entry : goal.invariant-loop-entry
-invariant-loop-entry l = too_large l.limit (drop l.entry-index l.entries) ≡ too_large l.limit l.entries
+abbrev pub invariant-loop-pair : goal.invariant-loop-pair
+invariant-loop-pair l = too_large l.limit (drop l.pair-index l.pairs) ≡ too_large l.limit l.pairs

@@ -11,7 +11,7 @@ pub loop-init : goal.loop-init
 loop-init g c = record {
   in_step = c.requires.in_step;
   checks = c.requires.checks;
-  same = record { frames = refl; tickets = refl; closed = refl };
+  same = record { outers = refl; tickets = refl; closed = refl };
   goes_on = checks_start _;
   told = told_still refl refl;
 }
@@ -23,7 +23,7 @@ pub check-requires-clause-checks : goal.check-requires-clause-checks
 check-requires-clause-checks g c = c.loop.invariant.checks
 
 pub check-requires-clause-alone : goal.check-requires-clause-alone
-check-requires-clause-alone g c = ap asks_of c.loop.invariant.same.frames ∙ c.requires.alone
+check-requires-clause-alone g c = ap asks_of c.loop.invariant.same.outers ∙ c.requires.alone
 
 pub returns-in_err-check-clause-same : goal.returns-in_err-check-clause-same
 returns-in_err-check-clause-same g c = same_but_checks c.loop.invariant.same c.check.ensures.same
@@ -54,13 +54,13 @@ returns-clause-same g c = same_but_checks c.loop.invariant.same c.check.ensures.
 pub returns-clause-goes_on : goal.returns-clause-goes_on
 returns-clause-goes_on g c =
     checks_last _ _ _ c.loop.invariant.goes_on
-    (settled_alone _ (held_alone _ _ _ _ c.loop.invariant.in_step c.loop.invariant.checks (ap asks_of c.loop.invariant.same.frames ∙ c.requires.alone)))
+    (settled_alone _ (held_alone _ _ _ _ c.loop.invariant.in_step c.loop.invariant.checks (ap asks_of c.loop.invariant.same.outers ∙ c.requires.alone)))
     (sym c.in_ok-check.ensures.begun ∙ c.if-branch.false) c.in_ok-check.ensures.done
 
 pub returns-clause-over : goal.returns-clause-over
 returns-clause-over g c =
     ap check_begins (c.in_ok-check.ensures.done ∙ no_check c.loop.self.journal
-    (settled_alone _ (held_alone _ _ _ _ c.loop.invariant.in_step c.loop.invariant.checks (ap asks_of c.loop.invariant.same.frames ∙ c.requires.alone)))
+    (settled_alone _ (held_alone _ _ _ _ c.loop.invariant.in_step c.loop.invariant.checks (ap asks_of c.loop.invariant.same.outers ∙ c.requires.alone)))
     (sym c.in_ok-check.ensures.begun ∙ c.if-branch.false))
     ∙ sym c.in_ok-check.ensures.begun ∙ c.if-branch.false
 

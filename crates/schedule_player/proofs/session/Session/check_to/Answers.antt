@@ -4,9 +4,9 @@ use Rattle.schedule_player.specs.Around.{asks_of, top_work}
 use Rattle.schedule_player.specs.Steps.{IsOfChecks}
 use Rattle.schedule_player.specs.InStep.{ChecksInStep}
 use Rattle.schedule_player.specs.SessionState.{SessionState}
-use Rattle.schedule_player.specs.declared.frames.Work.TheVariants.{Checks, Check, Beside}
+use Rattle.schedule_player.specs.declared.outers.Work.TheVariants.{Checks, Check, Beside}
 use Rattle.schedule_player.proofs.Tellings.{told_still, told_then}
-use Rattle.schedule_player.proofs.Checking.{same_journal, same_frames}
+use Rattle.schedule_player.proofs.Checking.{same_journal, same_outers}
 use Rattle.schedule_player.proofs.Arrivals.{reach_then, reach_still, of_checks}
 use Rattle.schedule_player.proofs.Transitions.{still_found, now_is, here, none, another, no_memory, calm, new_line, alone_in}
 use Rattle.schedule_player.proofs.session.Session.check_to.Goals as goal
@@ -27,7 +27,7 @@ pub begins-requires-clause-checks : goal.begins-requires-clause-checks
 begins-requires-clause-checks g c = c.loop-self.invariant.checks
 
 pub begins-requires-clause-alone : goal.begins-requires-clause-alone
-begins-requires-clause-alone g c = alone_in c.loop-self.self c.loop-self.invariant.in_step (of_checks c.loop-self.self.frames c.loop-self.next c.loop-self.invariant.line)
+begins-requires-clause-alone g c = alone_in c.loop-self.self c.loop-self.invariant.in_step (of_checks c.loop-self.self.outers c.loop-self.next c.loop-self.invariant.line)
 
 pub returns-in_err-begins-clause-reaches : goal.returns-in_err-begins-clause-reaches
 returns-in_err-begins-clause-reaches g c =
@@ -65,7 +65,7 @@ returns-in_err-check-clause-told g c =
 pub loop-self-preserved : goal.loop-self-preserved
 loop-self-preserved g c =
     let is = now_is c.args.number c.loop-self.next c.loop-self.self c.begins.new.self c.begins.new.self c.loop-self.invariant.line c.begins.ensures.same in
-    let checked_is = subst (λ fs. IsOfChecks (top_work fs)) (sym c.check.ensures.same.frames) is in
+    let checked_is = subst (λ fs. IsOfChecks (top_work fs)) (sym c.check.ensures.same.outers) is in
     record {
       in_step = calm c.check.new.self _ (Checks (c.loop-self.next + 1)) c.check.ensures.in_step checked_is (tt {0}) c.set_work-in-loop-self.ensures;
       checks = let k = c.in_ok-check.ensures.checks in subst (λ s. ChecksInStep g.N.Engine.problems_of s (g.N.Engine.state c.check.new.engine)) (sym c.set_work-in-loop-self.ensures) (record { skipped = k.skipped; ahead = k.ahead });

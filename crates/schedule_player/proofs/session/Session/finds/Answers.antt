@@ -2,7 +2,7 @@ use Rattle.std.proofs.Common.{◌≡◌, refl, sym, ap, ◌∙◌}
 use Rattle.ask_history.specs.Sources.{some_of}
 use Rattle.ask_history.specs.Checks.{due}
 use Rattle.schedule_player.specs.Around.{asks_of}
-use Rattle.schedule_player.proofs.Checking.{same_found, same_journal, same_closed, same_frames}
+use Rattle.schedule_player.proofs.Checking.{same_found, same_journal, same_closed, same_outers}
 use Rattle.schedule_player.proofs.session.Session.finds.Goals as goal
 
 pub loop-init : goal.loop-init
@@ -18,7 +18,7 @@ pub turn_check-requires-clause-live : goal.turn_check-requires-clause-live
 turn_check-requires-clause-live g c = same_closed c.loop.invariant.same ∙ c.requires.live
 
 pub turn_check-requires-clause-alone : goal.turn_check-requires-clause-alone
-turn_check-requires-clause-alone g c = ap asks_of (same_frames c.loop.invariant.same) ∙ c.requires.alone
+turn_check-requires-clause-alone g c = ap asks_of (same_outers c.loop.invariant.same) ∙ c.requires.alone
 
 pub returns-in_err-turn_check-clause-same : goal.returns-in_err-turn_check-clause-same
 returns-in_err-turn_check-clause-same g c = same_found c.loop.invariant.same c.turn_check.ensures.same

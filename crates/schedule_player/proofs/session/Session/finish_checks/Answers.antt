@@ -15,16 +15,16 @@ check_all-requires-clause-alone g c = alone_in c.args.self.now c.requires.in_ste
 pub returns-in-Err-clause-keeps : goal.returns-in-Err-clause-keeps
 returns-in-Err-clause-keeps g c = record {
   keeps = checks_kept _ _ _ c.requires.line (settled_in c.args.self.now c.requires.in_step c.requires.line)
-      (settled_in c.check_all.new.self c.check_all.ensures.in_step (subst (λ fs. IsOfChecks (top_work fs)) (sym c.check_all.ensures.same.frames) c.requires.line)) c.check_all.ensures.goes_on;
-  frames = c.check_all.ensures.same.frames;
+      (settled_in c.check_all.new.self c.check_all.ensures.in_step (subst (λ fs. IsOfChecks (top_work fs)) (sym c.check_all.ensures.same.outers) c.requires.line)) c.check_all.ensures.goes_on;
+  outers = c.check_all.ensures.same.outers;
   tickets = c.check_all.ensures.same.tickets;
 }
 
 pub returns-in-Ok-clause-ends : goal.returns-in-Ok-clause-ends
 returns-in-Ok-clause-ends g c = record {
-  ends = subst (λ s. Ends (top_work c.args.self.now.frames) c.args.self.now.journal s.journal) (sym c.pop.ensures)
+  ends = subst (λ s. Ends (top_work c.args.self.now.outers) c.args.self.now.journal s.journal) (sym c.pop.ensures)
       (checks_ended _ _ _ c.requires.line (settled_in c.args.self.now c.requires.in_step c.requires.line) c.check_all.ensures.goes_on c.in-Ok.ensures.over);
-  frames = ap {A = SessionState} (λ s. s.frames) c.pop.ensures ∙ ap around c.check_all.ensures.same.frames;
+  outers = ap {A = SessionState} (λ s. s.outers) c.pop.ensures ∙ ap around c.check_all.ensures.same.outers;
   tickets = ap {A = SessionState} (λ s. s.tickets) c.pop.ensures ∙ c.check_all.ensures.same.tickets;
 }
 

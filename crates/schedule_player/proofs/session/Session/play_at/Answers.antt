@@ -7,6 +7,6 @@ use Rattle.schedule_player.proofs.session.Session.play_at.Goals as goal
 pub returns-in-Ok-clause-plays : goal.returns-in-Ok-clause-plays
 returns-in-Ok-clause-plays g c = λ line at is under come.
     order_plays line c.args.self.now c.push.new.self c.play_order.new.self
-    (c.in_ok-push.ensures.ok ∙ ap (λ l. record c.args.self.now { frames = onto l c.args.self.now.frames }) (sym at))
+    (c.in_ok-push.ensures.ok ∙ ap (λ l. record c.args.self.now { outers = onto l c.args.self.now.outers }) (sym at))
     (subst (λ o. PlaysOrder o c.push.new.self c.play_order.new.self) (sym is) c.in-Ok.ensures.plays)
-    (subst (IsUnder c.args.self.now.frames) (sym at) under) come
+    (subst (IsUnder c.args.self.now.outers) (sym at) under) come

@@ -13,7 +13,7 @@ pub returns-then-is_passing_over-clause-plays : goal.returns-then-is_passing_ove
 returns-then-is_passing_over-clause-plays g c =
     after_ends c.args.line c.args.self.now c.finish_to.new.self _ c.finish_to.ensures.ends
     (passed_plays c.args.line c.finish_to.new.self _ (c.is_passing_over.ensures.passed c.if-is_passing_over.true) c.in_ok-finish_to.ensures.under
-    (ap {A = SessionState} (λ s. s.frames) c.in_ok-pass_over.ensures.0) (ap {A = SessionState} (λ s. s.journal) c.in_ok-pass_over.ensures.0) c.in_ok-pass_over.ensures.1)
+    (ap {A = SessionState} (λ s. s.outers) c.in_ok-pass_over.ensures.0) (ap {A = SessionState} (λ s. s.journal) c.in_ok-pass_over.ensures.0) c.in_ok-pass_over.ensures.1)
 
 pub returns-then-is_passing_over-clause-told : goal.returns-then-is_passing_over-clause-told
 returns-then-is_passing_over-clause-told g c = told_then c.finish_to.ensures.told (told_still (ap {A = SessionState} (λ s. findings g.N.Engine.problems_of s.journal) c.in_ok-pass_over.ensures.0) refl)

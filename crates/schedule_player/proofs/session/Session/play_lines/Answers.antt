@@ -14,8 +14,8 @@ loop-line-preserved g c =
       in_step = c.play_line.ensures.in_step;
       checks = c.in_ok-play_line.ensures.checks;
       can = All-tail (λ line. CanPlay line.order) c.in-Some.line c.pop_front.new.self.items (subst CanPlayAll first c.loop-line.invariant.can);
-      leads = subst (λ n. LeadsTo c.args.lines c.play_line.new.self.frames (nested n c.pop_front.new.self.items) c.play_line.new.self.journal) (sym c.in_ok-play_line.ensures.plays.number)
-          (c.in_ok-play_line.ensures.plays.leads c.args.lines _ (subst (λ ls. LeadsTo c.args.lines c.loop-line.self.frames (nested (length c.loop-line.self.tickets) ls) c.loop-line.self.journal) first c.loop-line.invariant.leads));
+      leads = subst (λ n. LeadsTo c.args.lines c.play_line.new.self.outers (nested n c.pop_front.new.self.items) c.play_line.new.self.journal) (sym c.in_ok-play_line.ensures.plays.number)
+          (c.in_ok-play_line.ensures.plays.leads c.args.lines _ (subst (λ ls. LeadsTo c.args.lines c.loop-line.self.outers (nested (length c.loop-line.self.tickets) ls) c.loop-line.self.journal) first c.loop-line.invariant.leads));
       told = told_then c.loop-line.invariant.told c.play_line.ensures.told;
     }
 

@@ -13,7 +13,7 @@ invariant-loop-line g l = record {
   in_step : InStep g.N.Engine.answer_of g.N.Engine.problems_of l.self (g.N.Engine.state l.engine);
   checks : ChecksInStep g.N.Engine.problems_of l.self (g.N.Engine.state l.engine);
   can : CanPlayAll l.left.items;
-  leads : LeadsTo l.fn.lines l.self.frames (nested (length l.self.tickets) l.left.items) l.self.journal;
+  leads : LeadsTo l.fn.lines l.self.outers (nested (length l.self.tickets) l.left.items) l.self.journal;
   told : KeepsTold (λ b. (goal.Reporter-dyn g (b.vtable, b.value)).told b.value) (λ b. (goal.Reporter-dyn g (b.vtable, b.value)).faults b.value)
       (findings g.N.Engine.problems_of l.initial.self.journal) (reporters_of l.initial.hub) (findings g.N.Engine.problems_of l.self.journal) (reporters_of l.hub);
 }

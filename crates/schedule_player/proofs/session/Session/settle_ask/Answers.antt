@@ -25,9 +25,9 @@ take_off-requires g c = λ fed. may_settle_top _ _ c.requires.in_step.served c.r
 off : (g : given.Over) (c : goal.After-pop g) → c.pop.new.self ≡ record c.args.self.now {
   journal = c.args.self.now.journal ++ Settle c.args.ticket (mark_of c.args.what) ∷ [];
   answers = slice_set c.args.self.now.answers c.args.ticket (reply (λ files call. value_of c.args.what) c.args.self.now.journal c.args.ticket (mark_of c.args.what));
-  frames = around c.args.self.now.frames;
+  outers = around c.args.self.now.outers;
 }
-off g c = c.pop.ensures ∙ ap {A = SessionState} (λ s. record s { frames = around s.frames }) c.settle.ensures.session
+off g c = c.pop.ensures ∙ ap {A = SessionState} (λ s. record s { outers = around s.outers }) c.settle.ensures.session
 
 pub returns-clause-in_step : goal.returns-clause-in_step
 returns-clause-in_step g c = in_step_at (off g c) c.take_off.ensures

@@ -1,6 +1,6 @@
 use Rattle.std.proofs.Common.{◌≡◌, refl, sym, ap, ◌∙◌}
 use Rattle.schedule_player.specs.Around.{asks_of}
-use Rattle.schedule_player.proofs.Checking.{same_found, same_journal, same_closed, same_frames}
+use Rattle.schedule_player.proofs.Checking.{same_found, same_journal, same_closed, same_outers}
 use Rattle.schedule_player.proofs.session.Session.turns_of.Goals as goal
 
 pub loop-turns-init : goal.loop-turns-init
@@ -16,7 +16,7 @@ pub turn_check-requires-clause-live : goal.turn_check-requires-clause-live
 turn_check-requires-clause-live g c = same_closed c.loop-turns.invariant.same ∙ c.requires.live
 
 pub turn_check-requires-clause-alone : goal.turn_check-requires-clause-alone
-turn_check-requires-clause-alone g c = ap asks_of (same_frames c.loop-turns.invariant.same) ∙ c.requires.alone
+turn_check-requires-clause-alone g c = ap asks_of (same_outers c.loop-turns.invariant.same) ∙ c.requires.alone
 
 pub returns-in_err-turn_check-clause-same : goal.returns-in_err-turn_check-clause-same
 returns-in_err-turn_check-clause-same g c = same_found c.loop-turns.invariant.same c.turn_check.ensures.same

@@ -2,14 +2,14 @@ use Rattle.std.proofs.Common.{◌≡◌, true, false, refl, Some, sym, ap, ◌�
 use Rattle.schedule_player.specs.Around.{top_work}
 use Rattle.schedule_player.specs.Steps.{IsSameLine, ask_in}
 use Rattle.schedule_player.proofs.Same.{in_step_at, checks_at}
-use Rattle.schedule_player.specs.declared.frames.Work.TheVariants.{Ask}
+use Rattle.schedule_player.specs.declared.outers.Work.TheVariants.{Ask}
 use Rattle.schedule_player.proofs.Served.{top_served}
 use Rattle.schedule_player.proofs.Reworks.{turned_in_step, rework_checks}
 use Rattle.schedule_player.proofs.session.Session.wait_in_ask.Goals as goal
 use Rattle.schedule_player.proofs.session.Session.wait_in_ask.Given as given
 
 module _ (g : given.Over) (c : goal.After-set_work g) where
-  line : top_work c.args.self.now.frames ≡ Ask c.in-Ask.ticket c.in-Ask.is_fed c.in-Ask.turns
+  line : top_work c.args.self.now.outers ≡ Ask c.in-Ask.ticket c.in-Ask.is_fed c.in-Ask.turns
   line = sym c.top_work.ensures ∙ c.in-Ask.is
 
   live : c.args.self.now.closed ≡ false

@@ -27,13 +27,13 @@ invariant_of-self-in-Ok c =
     let free = ap (λ (q : QueueState). refusal q.limits q.journal c.args.call) c.self.view_is ∙ c.requires.free in
     let same = call_of-accepted c.self.inside c.self.invariant c.accept.new.self c.in-Ok.ticket c.args.client c.args.tag c.args.call c.call-call.result.now
     c.in-Ok.ensures.ok c.in-Ok.ensures.ticket c.call-call.ensures in
-    let entries = c.reloaded-in-Ok.ensures ∙ ap reloaded_by same in
+    let pairs = c.reloaded-in-Ok.ensures ∙ ap reloaded_by same in
     let before = reloads c.self.inside.log in
     let usage : c.args.usage ≡ usage_of (before ++ c.reloaded-in-Ok.result.now) =
-    c.requires.usage ∙ ap (λ (q : QueueState). usage_of (reloads q.journal ++ reloaded_by c.args.call)) (sym c.self.view_is) ∙ ap (λ es. usage_of (before ++ es)) (sym entries) in
+    c.requires.usage ∙ ap (λ (q : QueueState). usage_of (reloads q.journal ++ reloaded_by c.args.call)) (sym c.self.view_is) ∙ ap (λ es. usage_of (before ++ es)) (sym pairs) in
     queue-accept c.self.inside c.self.invariant c.in-Ok.ticket c.args.client c.args.tag c.args.call (is_free c.self.inside.limits c.self.inside.log c.args.call free)
     c.requires.names c.accept.new.self c.in-Ok.ensures.ok c.in-Ok.ensures.legal c.take_in.new.self
-    (subst (λ es. IsTally (before ++ es) c.take_in.new.self) entries (c.take_in.ensures before (c.make_room.ensures.same before c.self.invariant.tally) usage))
+    (subst (λ es. IsTally (before ++ es) c.take_in.new.self) pairs (c.take_in.ensures before (c.make_room.ensures.same before c.self.invariant.tally) usage))
 
 pub invariant_of-self-in-Err : goal.invariant_of-self-in-Err
 invariant_of-self-in-Err c =

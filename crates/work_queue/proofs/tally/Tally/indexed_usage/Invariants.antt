@@ -8,6 +8,6 @@ use Rattle.work_queue.proofs.tally.Tally.indexed_usage.Given as goal
 
 abbrev pub invariant-loop-i : goal.invariant-loop-i
 invariant-loop-i l = record {
-  counted : IsCounted l.self l.entries l.i l.usage;
-  indexed : (name : Bytes) → get_by (λ k. bytes_eq name k.now) l.seen ≡ longest (take l.i l.entries) name;
+  counted : IsCounted l.self l.pairs l.i l.usage;
+  indexed : (name : Bytes) → get_by (λ k. bytes_eq name k.now) l.seen ≡ longest (take l.i l.pairs) name;
 }

@@ -5,21 +5,21 @@ use Rattle.work_queue.proofs.Results.{ok_from}
 use Rattle.work_queue.proofs.Rooms.{same-again, has_room-more}
 use Rattle.work_queue.proofs.tally.Tally.make_room.Goals as goal
 
-pub loop-entry-preserved : goal.loop-entry-preserved
-loop-entry-preserved c =
+pub loop-pair-preserved : goal.loop-pair-preserved
+loop-pair-preserved c =
     let start = c.args.self.now in
     let room = ok_from c.make_room_for.result _ (sym c.is_err.ensures.value ∙ c.if-is_err.false) c.make_room_for.ensures.room in
     let same = c.make_room_for.ensures.same in
-    let kept = c.loop-entry.invariant.more in
+    let kept = c.loop-pair.invariant.more in
     let more = c.make_room_for.ensures.more in
     record {
-      same = same-again start c.loop-entry.self c.make_room_for.new.self c.loop-entry.invariant.same same;
-      room = has_room-more c.loop-entry.self c.make_room_for.new.self c.args.entries.now c.loop-entry.entry-index c.entry-item.result same.room
-          c.loop-entry-test.true c.entry-item.is c.loop-entry.invariant.room (ap (has_room c.make_room_for.new.self) (sym c.as_str.ensures) ∙ room);
-      names = c.make_room_for.ensures.names (length start.longest.entries) kept ∙ c.loop-entry.invariant.names;
+      same = same-again start c.loop-pair.self c.make_room_for.new.self c.loop-pair.invariant.same same;
+      room = has_room-more c.loop-pair.self c.make_room_for.new.self c.args.pairs.now c.loop-pair.pair-index c.pair-item.result same.room
+          c.loop-pair-test.true c.pair-item.is c.loop-pair.invariant.room (ap (has_room c.make_room_for.new.self) (sym c.as_str.ensures) ∙ room);
+      names = c.make_room_for.ensures.names (length start.longest.entries) kept ∙ c.loop-pair.invariant.names;
       more = omega arith;
     }
 
 pub returns-clause-room : goal.returns-clause-room
 returns-clause-room c =
-    subst (λ es. HasRoom es c.loop-entry.self) (take_all c.loop-entry.entry-index c.args.entries.now c.loop-entry-test.false) c.loop-entry.invariant.room
+    subst (λ es. HasRoom es c.loop-pair.self) (take_all c.loop-pair.pair-index c.args.pairs.now c.loop-pair-test.false) c.loop-pair.invariant.room

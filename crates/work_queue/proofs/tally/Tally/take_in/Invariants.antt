@@ -4,8 +4,8 @@ use Rattle.work_queue.specs.Reloads.{longest, longer}
 use Rattle.work_queue.specs.Tally.{HasRoom, known}
 use Rattle.work_queue.proofs.tally.Tally.take_in.Given as goal
 
-abbrev pub invariant-loop-entry : goal.invariant-loop-entry
-invariant-loop-entry l = record {
-  longest : (name : Bytes) → known l.self name ≡ longer (known l.initial.self name) (longest (take l.entry-index l.entries) name);
-  room : HasRoom l.entries l.self;
+abbrev pub invariant-loop-pair : goal.invariant-loop-pair
+invariant-loop-pair l = record {
+  longest : (name : Bytes) → known l.self name ≡ longer (known l.initial.self name) (longest (take l.pair-index l.pairs) name);
+  room : HasRoom l.pairs l.self;
 }

@@ -25,7 +25,7 @@ pub enum Work {
 
 /// A line with lines under it that are still to come.
 #[derive(Clone, Copy, Debug)]
-pub struct Frame {
+pub struct Outer {
     pub level: u32,
     /// Whether it is an ask, or stands under one.
     pub under_ask: bool,

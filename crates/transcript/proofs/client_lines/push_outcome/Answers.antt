@@ -1,7 +1,7 @@
 use Rattle.std.proofs.Common.{◌++◌, sym, ap, ◌∙◌}
 use Rattle.std.proofs.lemmas.Result.{on_ok_weaker}
 use Rattle.transcript.specs.Transcript.{outcome_of, cancel_outcome}
-use Rattle.transcript.proofs.entries.push_outcome.Goals as goal
+use Rattle.transcript.proofs.client_lines.push_outcome.Goals as goal
 
 pub returns-in-Some : goal.returns-in-Some
 returns-in-Some c = on_ok_weaker c.push_indices.result

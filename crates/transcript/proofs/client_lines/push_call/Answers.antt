@@ -3,7 +3,7 @@ use Rattle.std.proofs.lemmas.Bool.{cond-true}
 use Rattle.std.proofs.lemmas.Result.{on_ok_weaker}
 use Rattle.ask_history.specs.Indices.{settle_index}
 use Rattle.transcript.specs.Transcript.{call_text, answered_text}
-use Rattle.transcript.proofs.entries.push_call.Goals as goal
+use Rattle.transcript.proofs.client_lines.push_call.Goals as goal
 
 pub returns-then-is_some : goal.returns-then-is_some
 returns-then-is_some c = on_ok_weaker c.push_answered.result

@@ -2,7 +2,7 @@ use Rattle.std.proofs.Common.{◌≡◌, ◌++◌, List, drop}
 use Rattle.ask_history.specs.declared.events.Event.{Event}
 use Rattle.transcript.specs.Outcomes.{IsTableOf}
 use Rattle.transcript.specs.Transcript.{clients_text}
-use Rattle.transcript.proofs.entries.push_clients.Given as goal
+use Rattle.transcript.proofs.client_lines.push_clients.Given as goal
 
 -- what is written so far, and the clients that are left
 abbrev pub invariant-loop-client : goal.invariant-loop-client

@@ -3,7 +3,7 @@ use pc_terms::Row;
 
 /// What became of the clients of a session.
 #[derive(Drop)]
-pub(crate) enum Outcome {
+pub(crate) enum Fate {
     /// All played their scripts to the end. Each has the answers of its accepted calls, in the order of its script.
     Played {
         scripts: Row<Script>,

@@ -142,7 +142,7 @@ fn push_close(alloc: Global, text: &mut Text, closed: Option<u64>) -> Result<(),
     }
 }
 
-fn push_entry(
+fn push_client_line(
     alloc: Global,
     text: &mut Text,
     outcomes: &Outcomes,
@@ -151,7 +151,7 @@ fn push_entry(
     answers: &[Answer],
     order: &Order,
 ) -> Result<(), NoMemory>
-    ensures { OnOk result ((journal : List Event) → IsTableOf journal outcomes.now → text.new ≡ text.old ++ spec.entry_text journal client number answers.now order.now) }
+    ensures { OnOk result ((journal : List Event) → IsTableOf journal outcomes.now → text.new ≡ text.old ++ spec.line_printed journal client number answers.now order.now) }
 {
     match order {
         Order::Call(_) => push_call(
@@ -215,7 +215,7 @@ fn number_after(order: &Order, number: u64) -> u64
     }
 }
 
-fn push_entries(
+fn push_client_lines(
     alloc: Global,
     text: &mut Text,
     outcomes: &Outcomes,
@@ -224,12 +224,12 @@ fn push_entries(
     lines: &[Line],
 ) -> Result<(), NoMemory>
     requires { length lines.now < 2 ^ 62 }
-    ensures { OnOk result ((journal : List Event) → IsTableOf journal outcomes.now → text.new ≡ text.old ++ spec.entries_text journal client 1 answers.now lines.now) }
+    ensures { OnOk result ((journal : List Event) → IsTableOf journal outcomes.now → text.new ≡ text.old ++ spec.lines_printed journal client 1 answers.now lines.now) }
 {
     let mut left = answers;
     let mut number = 1;
     for line in lines {
-        push_entry(alloc, text, outcomes, client, number, left, &line.order)?;
+        push_client_line(alloc, text, outcomes, client, number, left, &line.order)?;
         left = answers_after(outcomes, client, number, left, &line.order);
         number = number_after(&line.order, number);
     }
@@ -266,7 +266,7 @@ pub fn push_clients(
     let mut left = rows;
     for (client, script) in scripts.iter().enumerate() {
         push_count(alloc, text, "client", client)?;
-        push_entries(
+        push_client_lines(
             alloc,
             text,
             outcomes,
