@@ -1,5 +1,5 @@
 //! The driver, and the rounds that it makes.
-ghost use Rattle.std.specs.Prelude.{◌≡◌, ◌<◌, ◌+◌, ◌^◌, ◌==◌, [], ℕ, List, true, false, not, filter, IsTrue};
+ghost use Rattle.std.specs.Prelude.{◌≡◌, ◌<◌, ◌+◌, ◌^◌, ◌==◌, [], ℕ, List, true, false, IsTrue};
 ghost use Rattle.std.specs.List.{list_any};
 ghost use Rattle.ask_history.specs.Engine.{EngineState};
 ghost use Rattle.ask_history.specs.Journal.{accepted, is_closed, is_open};
@@ -8,7 +8,7 @@ ghost use Rattle.report_hub.specs.Hub.{reporters_of, of_box, IsToldMost, OfEach}
 ghost use Rattle.engine_driver.specs.History.{journal_of};
 ghost use Rattle.engine_driver.specs.Board.{CanFeed};
 ghost use Rattle.engine_driver.specs.Serving.{Drives, IsFound, IsStaging};
-ghost use Rattle.engine_driver.specs.Runs.{Adds, Made};
+ghost use Rattle.engine_driver.specs.Runs.{Adds, GoesOn, Made, TurnsOn, without};
 
 use crate::board::{Board, Posted};
 use crate::checks::note;
@@ -44,7 +44,7 @@ impl Driver {
     // Forgets an open ask.
     fn take_off(&mut self, ticket: u64)
         ensures next { self.new.next ≡ self.old.next }
-        ensures opened { self.new.opened.items ≡ filter (λ other. not (other == ticket)) self.old.opened.items }
+        ensures opened { self.new.opened.items ≡ without ticket self.old.opened.items }
     {
         self.opened.retain(|other| *other != ticket);
     }
@@ -63,6 +63,8 @@ impl Driver {
         requires right { IsFound E.answer_of (B.history board.old) ticket found }
         ensures drives { Drives (journal_of (B.history board.new)) (E.state engine.new) self.new.next self.new.opened.items }
         ensures adds { Adds E.answer_of E.problems_of (B.history board.old) (B.history board.new) [] }
+        ensures next { self.new.next ≡ self.old.next }
+        ensures opened { self.new.opened.items ≡ without ticket self.old.opened.items }
     {
         board.settle(ticket, found);
         engine.settled(ticket, Effect::Dropped);
@@ -77,6 +79,7 @@ impl Driver {
         ensures drives { (state : EngineState) → Drives (journal_of (B.history board.old)) state self.old.next self.old.opened.items
             → Drives (journal_of (B.history board.new)) state self.new.next self.new.opened.items }
         ensures adds { Adds E.answer_of E.problems_of (B.history board.old) (B.history board.new) [] }
+        ensures next { self.new.next ≡ self.old.next + 1 }
     {
         board.settle(self.next, None);
         self.next += 1;
@@ -88,6 +91,7 @@ impl Driver {
         requires fits { self.old.next + 1 < 2 ^ 64 }
         ensures drives { Drives (journal_of (B.history board.new)) (E.state engine.new) self.new.next self.new.opened.items }
         ensures adds { Adds E.answer_of E.problems_of (B.history board.old) (B.history board.new) [] }
+        ensures next { self.new.next ≡ self.old.next + 1 }
     {
         let effect = board.settle(self.next, Some(Answer::Done));
         engine.settled(self.next, effect);
@@ -101,6 +105,7 @@ impl Driver {
         requires fits { self.old.next + 1 < 2 ^ 64 }
         ensures drives { Drives (journal_of (B.history board.new)) (E.state engine.new) self.new.next self.new.opened.items }
         ensures adds { Adds E.answer_of E.problems_of (B.history board.old) (B.history board.new) [] }
+        ensures next { self.new.next ≡ self.old.next + 1 }
     {
         if self.opened.reserve(1).is_err() {
             self.settle_unfed::<B, E>(board);
@@ -123,6 +128,7 @@ impl Driver {
         requires fits { self.old.next + 1 < 2 ^ 64 }
         ensures drives { Drives (journal_of (B.history board.new)) (E.state engine.new) self.new.next self.new.opened.items }
         ensures adds { Adds E.answer_of E.problems_of (B.history board.old) (B.history board.new) [] }
+        ensures next { self.new.next ≡ self.old.next + 1 }
     {
         match board.posted(self.next) {
             Posted::Call(call) => self.feed(board, engine, &call),
@@ -144,6 +150,9 @@ impl Driver {
         ensures drives { Drives (journal_of (B.history board.new)) (E.state engine.new) self.new.next self.new.opened.items }
         ensures made { Made E.answer_of E.problems_of (λ findings. OfEach (IsToldMost (of_box told) (of_box faults) findings) (reporters_of hub.old) (reporters_of hub.new))
             (B.history board.old) (B.history board.new) found.old.items found.new.items }
+        ensures goes_on { TurnsOn
+            (record { next = self.old.next; opened = self.old.opened.items; engine = E.state engine.old; left = E.left engine.old; history = B.history board.old })
+            (record { next = self.new.next; opened = self.new.opened.items; engine = E.state engine.new; left = E.left engine.new; history = B.history board.new }) }
     {
         match engine.turn(STEPS) {
             Turn::Safe => board.at_safe_point(),
@@ -169,6 +178,9 @@ impl Driver {
         ensures made { Made E.answer_of E.problems_of (λ findings. OfEach (IsToldMost (of_box told) (of_box faults) findings) (reporters_of hub.old) (reporters_of hub.new))
             (B.history board.old) (B.history board.new) found.old.items found.new.items }
         ensures shut { result ≡ true → is_closed (journal_of (B.history board.new)) ≡ true }
+        ensures goes_on { result ≡ false → GoesOn
+            (record { next = self.old.next; opened = self.old.opened.items; engine = E.state engine.old; left = E.left engine.old; history = B.history board.old })
+            (record { next = self.new.next; opened = self.new.opened.items; engine = E.state engine.new; left = E.left engine.new; history = B.history board.new }) }
     {
         let news = board.look(self.opened.as_slice());
         if news.is_closed {

@@ -92,22 +92,22 @@ module _ (content later : Bytes → Option Bytes) (names : List Bytes) (few : le
         (comes_to-then_ok later (λ found. scripts_within (map (script_with found) scripts)) (sources_reading [] (pairs_in (lines_in scripts))) sources result first second)
 
 pub scripts_within_counts : (scripts : List Script) (content : Bytes → Option Bytes) (result : Result (List Script) NoInput) (before now : ℕ) (last : Option Bytes)
-    → ComesTo content (scripts_within scripts) result → before ≤ now → CountsFaults result before now last
+    → ComesTo content (scripts_within scripts) result → now ≡ before → CountsFaults result before now last
 scripts_within_counts scripts content result before now last = by (passed_by (lines_in scripts)) where
-  by : (passed : Option (Limit × ℕ)) → ComesTo content (unless_passed scripts passed) result → before ≤ now → CountsFaults result before now last
+  by : (passed : Option (Limit × ℕ)) → ComesTo content (unless_passed scripts passed) result → now ≡ before → CountsFaults result before now last
   by None = given_counts scripts content result before now last
-  by (Some (limit, value)) = refused_counts (refusal.Limit limit value) content result before now last tt
+  by (Some (limit, value)) = refused_counts (refusal.Limit limit value) content result before now last (λ is. is)
 
 pub scripts_counts : (content : Bytes → Option Bytes) (scripts : List Script) (texts : List (Bytes × Bytes)) (result : Result (List Script) NoInput) (before now : ℕ) (last : Option Bytes)
-    → ComesTo content (scripts_reading scripts texts) result → before ≤ now → CountsFaults result before now last
-scripts_counts content scripts [] result before now last comes risen = given_counts scripts content result before now last comes risen
-scripts_counts content scripts (named ∷ texts) result before now last comes risen =
-    by (lines_read kind.Client named.1) (λ lines. scripts_counts content (scripts ++ record { lines = lines } ∷ []) texts result before now last) comes risen
+    → ComesTo content (scripts_reading scripts texts) result → now ≡ before → CountsFaults result before now last
+scripts_counts content scripts [] result before now last comes same = given_counts scripts content result before now last comes same
+scripts_counts content scripts (named ∷ texts) result before now last comes same =
+    by (lines_read kind.Client named.1) (λ lines. scripts_counts content (scripts ++ record { lines = lines } ∷ []) texts result before now last) comes same
   where
-    by : (read : Result (List Line) ℕ) → ((lines : List Line) → ComesTo content (scripts_reading (scripts ++ record { lines = lines } ∷ []) texts) result → before ≤ now → CountsFaults result before now last)
-        → ComesTo content (then_reads (λ lines. scripts_reading (scripts ++ record { lines = lines } ∷ []) texts) (lines_or_bad named.0 read)) result → before ≤ now → CountsFaults result before now last
+    by : (read : Result (List Line) ℕ) → ((lines : List Line) → ComesTo content (scripts_reading (scripts ++ record { lines = lines } ∷ []) texts) result → now ≡ before → CountsFaults result before now last)
+        → ComesTo content (then_reads (λ lines. scripts_reading (scripts ++ record { lines = lines } ∷ []) texts) (lines_or_bad named.0 read)) result → now ≡ before → CountsFaults result before now last
     by (Ok lines) more = more lines
-    by (Err number) more = refused_counts (refusal.BadScript named.0 number) content result before now last tt
+    by (Err number) more = refused_counts (refusal.BadScript named.0 number) content result before now last (λ is. is)
 
 -- ---- what was read
 

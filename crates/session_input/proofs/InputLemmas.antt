@@ -17,11 +17,11 @@ use Rattle.session_input.proofs.ReadLemmas.{comes_to-then_ok, comes_to-then_err}
 use Rattle.session_input.proofs.TextLemmas.{given_counts, refused_counts}
 
 pub within_counts : (lines : List Line) (content : Bytes → Option Bytes) (result : Result (List Line) NoInput) (before now : ℕ) (last : Option Bytes)
-    → ComesTo content (within_limits lines) result → before ≤ now → CountsFaults result before now last
+    → ComesTo content (within_limits lines) result → now ≡ before → CountsFaults result before now last
 within_counts lines content result before now last = by (passed_by lines) where
-  by : (passed : Option (Limit × ℕ)) → ComesTo content (unless_passed lines passed) result → before ≤ now → CountsFaults result before now last
+  by : (passed : Option (Limit × ℕ)) → ComesTo content (unless_passed lines passed) result → now ≡ before → CountsFaults result before now last
   by None = given_counts lines content result before now last
-  by (Some (limit, value)) = refused_counts (refusal.Limit limit value) content result before now last tt
+  by (Some (limit, value)) = refused_counts (refusal.Limit limit value) content result before now last (λ is. is)
 
 -- after the lines, their sources
 module _ (content later : Bytes → Option Bytes) (name : Bytes) (lines : List Line) (same : later ≡ content) (read : ComesTo content (script_reading kind.Schedule name) (Ok lines)) where

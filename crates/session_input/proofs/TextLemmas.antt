@@ -70,29 +70,29 @@ accepted_not limit name bytes named byte small part same at content =
 
 -- ---- what is not a fault of reading
 
-no_memory_counts : {A : Type 0} (result : Result A NoInput) (before now : ℕ) (last : Option Bytes) → result ≡ Err NoMemory → before ≤ now → CountsFaults result before now last
-no_memory_counts result before now last none risen = rw none risen
+no_memory_counts : {A : Type 0} (result : Result A NoInput) (before now : ℕ) (last : Option Bytes) → result ≡ Err NoMemory → now ≡ before → CountsFaults result before now last
+no_memory_counts result before now last none same = rw none same
 
-pub given_counts : {A : Type 0} (a : A) (content : Bytes → Option Bytes) (result : Result A NoInput) (before now : ℕ) (last : Option Bytes) → ComesTo content (Gives a) result → before ≤ now → CountsFaults result before now last
-given_counts a content result before now last (inl ok) risen = rw ok risen
-given_counts a content result before now last (inr none) risen = no_memory_counts result before now last none risen
+pub given_counts : {A : Type 0} (a : A) (content : Bytes → Option Bytes) (result : Result A NoInput) (before now : ℕ) (last : Option Bytes) → ComesTo content (Gives a) result → now ≡ before → CountsFaults result before now last
+given_counts a content result before now last (inl ok) same = rw ok same
+given_counts a content result before now last (inr none) same = no_memory_counts result before now last none same
 
 pub refused_counts : {A : Type 0} (why : Refusal) (content : Bytes → Option Bytes) (result : Result A NoInput) (before now : ℕ) (last : Option Bytes)
-    → RoseIfFault why before now last → ComesTo content (Refuses why) result → before ≤ now → CountsFaults result before now last
-refused_counts why content result before now last other (inl refused) risen = rw refused (risen, other)
-refused_counts why content result before now last other (inr none) risen = no_memory_counts result before now last none risen
+    → (now ≡ before → RoseIfFault why before now last) → ComesTo content (Refuses why) result → now ≡ before → CountsFaults result before now last
+refused_counts why content result before now last other (inl refused) same = rw refused (omega (arith, same), other same)
+refused_counts why content result before now last other (inr none) same = no_memory_counts result before now last none same
 
 pub accepted_counts : (limit : Limit) (name bytes : Bytes) (content : Bytes → Option Bytes) (result : Result Bytes NoInput) (before now : ℕ) (last : Option Bytes)
-    → ComesTo content (accepted limit name bytes) result → before ≤ now → CountsFaults result before now last
+    → ComesTo content (accepted limit name bytes) result → now ≡ before → CountsFaults result before now last
 accepted_counts limit name bytes content result before now last = by (nat_lt (most_of limit) (length bytes)) (utf8_valid_len bytes == length bytes) where
   by : (long whole : Bool)
       → ComesTo content (cond long (Refuses (refusal.Limit limit (most_of limit + 1))) (cond whole (Gives bytes) (Refuses (refusal.NotUtf8 name (utf8_valid_len bytes))))) result
-      → before ≤ now → CountsFaults result before now last
-  by true whole = refused_counts (refusal.Limit limit (most_of limit + 1)) content result before now last tt
+      → now ≡ before → CountsFaults result before now last
+  by true whole = refused_counts (refusal.Limit limit (most_of limit + 1)) content result before now last (λ is. is)
   by false true = given_counts bytes content result before now last
-  by false false = refused_counts (refusal.NotUtf8 name (utf8_valid_len bytes)) content result before now last tt
+  by false false = refused_counts (refusal.NotUtf8 name (utf8_valid_len bytes)) content result before now last (λ is. is)
 
 pub lines_counts : (name : Bytes) (read : Result (List Line) ℕ) (content : Bytes → Option Bytes) (result : Result (List Line) NoInput) (before now : ℕ) (last : Option Bytes)
-    → ComesTo content (lines_or_bad name read) result → before ≤ now → CountsFaults result before now last
-lines_counts name (Ok lines) content result before now last comes risen = given_counts lines content result before now last comes risen
-lines_counts name (Err number) content result before now last comes risen = refused_counts (refusal.BadScript name number) content result before now last tt comes risen
+    → ComesTo content (lines_or_bad name read) result → now ≡ before → CountsFaults result before now last
+lines_counts name (Ok lines) content result before now last comes same = given_counts lines content result before now last comes same
+lines_counts name (Err number) content result before now last comes same = refused_counts (refusal.BadScript name number) content result before now last (λ is. is) comes same

@@ -30,7 +30,8 @@ fn accepted(name: &Text, limit: Limit, bytes: Vec<u8>) -> Result<Text, NoInput>
     }
 }
 
-/// The text of a file that is not to be longer than its limit.
+/// The text of a file that is not to be longer than its limit. The name that a fault tells is copied before the file is
+/// read, so that no fault is told as out of memory.
 pub fn read_text<F: Files>(
     alloc: Global,
     files: &mut F,
@@ -42,9 +43,10 @@ pub fn read_text<F: Files>(
     ensures content { (other : List ℕ) → F.content files.new other ≡ F.content files.old other }
     ensures counts { CountsFaults result (F.faults files.old) (F.faults files.new) (F.last_failed files.new) }
 {
+    let told = name.clone()?;
     match files.read(alloc, name.as_str(), most_of(limit) as usize + 1) {
         Ok(bytes) => accepted(name, limit, bytes),
-        Err(ReadRefused::Failed) => Err(NoInput::Refused(Refusal::ReadFault(name.clone()?))),
+        Err(ReadRefused::Failed) => Err(NoInput::Refused(Refusal::ReadFault(told))),
         Err(ReadRefused::NoMemory) => Err(NoInput::NoMemory),
     }
 }

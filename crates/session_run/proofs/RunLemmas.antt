@@ -1,5 +1,5 @@
 -- A run from its words to its line for the user.
-use Rattle.std.proofs.Common.{◌≡◌, inl, inr, ◌≤◌, ℕ, List, [], Option, Some, None, Ok, refl, sym, subst}
+use Rattle.std.proofs.Common.{◌≡◌, inl, inr, ℕ, List, [], Option, Some, None, Ok, refl, sym, subst, arith}
 use Rattle.pc_terms.specs.Bytes.{Bytes}
 use Rattle.pc_terms.specs.declared.problems.Problem.{Problem}
 use Rattle.pc_outside.specs.Outside.{Rose}
@@ -20,7 +20,7 @@ use Rattle.session_input.proofs.ReadLemmas.{fault_or_told}
 use Rattle.session_input.proofs.FaultLemmas.{fault_names}
 use Rattle.session_run.specs.Words.{mode_of, schedule_of}
 use Rattle.session_run.specs.Printed.{printed, Wrote}
-use Rattle.session_run.specs.Reading.{HasInput, RoseAsTold, HasReadFaults, HasWriteFault, NamesReadFile}
+use Rattle.session_run.specs.Reading.{HasInput, RoseAsTold, CountsReads, HasReadFaults, HasWriteFault, NamesReadFile}
 use Rattle.session_run.specs.Run.{IsSessionEnding}
 use Rattle.session_run.specs.Session.{SessionOwes}
 use Rattle.session_run.specs.Owed.{Seen, IsJournalOf, Completes, IsRun}
@@ -33,13 +33,13 @@ use Rattle.session_run.proofs.SessionLemmas.{grew_by_nothing}
 
 -- ---- a session
 
-no_fault_played : (ended : Ending) (before now : ℕ) (last : Option Bytes) → IsSessionEnding ended → RoseAsTold ended before now last
-no_fault_played ending.Done before now last ends = tt
-no_fault_played ending.WriteFault before now last ends = tt
-no_fault_played ending.NoMemory before now last ends = tt
-no_fault_played ending.Usage before now last ends = absurd ends
-no_fault_played ending.SpawnFault before now last ends = absurd ends
-no_fault_played (ending.Refused why) before now last ends = absurd ends
+no_fault_played : (ended : Ending) (before now : ℕ) (last : Option Bytes) → IsSessionEnding ended → now ≡ before → RoseAsTold ended before now last
+no_fault_played ending.Done before now last ends same = same
+no_fault_played ending.WriteFault before now last ends same = same
+no_fault_played ending.NoMemory before now last ends same = tt
+no_fault_played ending.Usage before now last ends same = absurd ends
+no_fault_played ending.SpawnFault before now last ends same = absurd ends
+no_fault_played (ending.Refused why) before now last ends same = absurd ends
 
 no_name_played : (content : Bytes → Option Bytes) (schedule : Bytes) (ended : Ending) → IsSessionEnding ended → NamesReadFile content schedule ended
 no_name_played content schedule ending.Done ends = tt
@@ -58,18 +58,18 @@ completes_played content words seen ending.SpawnFault ends writing = absurd ends
 completes_played content words seen (ending.Refused why) ends writing = absurd ends
 
 pub run_played : (answer_of : Sources → Call → Answer) (problems_of : Sources → Bytes → List Problem) (content : Bytes → Option Bytes) (words : List Bytes) (seen : Seen) (lines : List Line) (ended : Ending) (journal : List Event)
-    → mode_of words ≡ Alone → ComesTo content (schedule_reading (schedule_of words)) (Ok lines) → seen.read_faults ≤ seen.read_faults'
+    → mode_of words ≡ Alone → ComesTo content (schedule_reading (schedule_of words)) (Ok lines) → seen.read_faults' ≡ seen.read_faults
     → SessionOwes answer_of problems_of lines
     (record { put_faults = seen.put_faults; put_faults' = seen.put_faults'; out = seen.out; out' = seen.out'; engine' = seen.engine'; reporter = seen.reporter; reporter' = seen.reporter' }) ended journal
     → IsRun answer_of problems_of content words seen ended journal
-run_played answer_of problems_of content words seen lines ended journal alone read risen owes = record {
+run_played answer_of problems_of content words seen lines ended journal alone read same owes = record {
   began = Some lines;
   input = subst (λ (m : Mode). HasInput m content (schedule_of words) (Some lines) ended) (sym alone) (owes.ends, read);
   ran = owes.ran;
   legal = owes.legal;
   settled = owes.settled;
   output = owes.output;
-  reading = (risen, no_fault_played ended seen.read_faults seen.read_faults' seen.last_failed' owes.ends);
+  reading = (omega (arith, same), no_fault_played ended seen.read_faults seen.read_faults' seen.last_failed' owes.ends same);
   named = no_name_played content (schedule_of words) ended owes.ends;
   writing = owes.writing;
   complete = completes_played content words seen ended owes.ends owes.writing;
@@ -93,15 +93,24 @@ no_output Alone content schedule ending.SpawnFault out input = absurd input
 no_output Threads content schedule ending.SpawnFault out input = let e = input.1 in cc
 no_output Bad content schedule ending.SpawnFault out input = let e = input.1 in cc
 
-no_write_fault : (mode : Mode) (content : Bytes → Option Bytes) (schedule : Bytes) (ended : Ending) (before now : ℕ) → HasInput mode content schedule None ended → HasWriteFault ended before now
-no_write_fault mode content schedule ending.Usage before now input = tt
-no_write_fault mode content schedule (ending.Refused why) before now input = tt
-no_write_fault mode content schedule ending.NoMemory before now input = tt
-no_write_fault mode content schedule ending.Done before now input = tt
-no_write_fault mode content schedule ending.SpawnFault before now input = tt
-no_write_fault Alone content schedule ending.WriteFault before now input = absurd input
-no_write_fault Threads content schedule ending.WriteFault before now input = let e = input.1 in cc
-no_write_fault Bad content schedule ending.WriteFault before now input = let e = input.1 in cc
+no_write_fault : (mode : Mode) (content : Bytes → Option Bytes) (schedule : Bytes) (ended : Ending) (before now : ℕ) → HasInput mode content schedule None ended → now ≡ before → HasWriteFault ended before now
+no_write_fault mode content schedule ending.Usage before now input same = same
+no_write_fault mode content schedule (ending.Refused why) before now input same = same
+no_write_fault mode content schedule ending.NoMemory before now input same = same
+no_write_fault mode content schedule ending.Done before now input same = same
+no_write_fault mode content schedule ending.SpawnFault before now input same = same
+no_write_fault Alone content schedule ending.WriteFault before now input same = absurd input
+no_write_fault Threads content schedule ending.WriteFault before now input same = let e = input.1 in cc
+no_write_fault Bad content schedule ending.WriteFault before now input same = let e = input.1 in cc
+
+-- what reading did may be told
+pub told_reads : (ended : Ending) (before now : ℕ) (last : Option Bytes) → CountsReads ended before now last → HasReadFaults ended before now last
+told_reads ending.NoMemory before now last counts = (counts.0, tt)
+told_reads ending.Done before now last counts = counts
+told_reads ending.Usage before now last counts = counts
+told_reads ending.WriteFault before now last counts = counts
+told_reads ending.SpawnFault before now last counts = counts
+told_reads (ending.Refused why) before now last counts = counts
 
 names_refused : (mode : Mode) (content : Bytes → Option Bytes) (schedule : Bytes) (ended : Ending) → HasInput mode content schedule None ended → NamesReadFile content schedule ended
 names_refused Alone content schedule (ending.Refused (refusal.ReadFault name)) input = fault_names content schedule name input
@@ -131,22 +140,23 @@ completes_refused content words seen (ending.Refused why) input reading = λ lin
     absurd (reads (risen_for why seen.read_faults seen.read_faults' seen.last_failed' (fault_or_told content (schedule_reading (schedule_of words)) lines why is refused) reading.1))
 
 pub run_refused : (answer_of : Sources → Call → Answer) (problems_of : Sources → Bytes → List Problem) (content : Bytes → Option Bytes) (words : List Bytes) (seen : Seen) (ended : Ending)
-    → HasInput (mode_of words) content (schedule_of words) None ended → HasReadFaults ended seen.read_faults seen.read_faults' seen.last_failed'
-    → seen.out' ≡ seen.out → seen.engine' ≡ seen.engine → seen.reporter' ≡ seen.reporter → IsRun answer_of problems_of content words seen ended []
-run_refused answer_of problems_of content words seen ended input reading out engine reporter = record {
-  began = None;
-  input = input;
-  ran = refl;
-  legal = refl;
-  settled = refl;
-  output = subst (λ (now : Option Bytes). Wrote [] ended seen.out now) (sym out) (no_output (mode_of words) content (schedule_of words) ended seen.out input);
-  reading = reading;
-  named = names_refused (mode_of words) content (schedule_of words) ended input;
-  writing = no_write_fault (mode_of words) content (schedule_of words) ended seen.put_faults seen.put_faults' input;
-  complete = completes_refused content words seen ended input reading;
-  reported = subst (λ (now : ReporterState). WasToldMost [] seen.reporter now) (sym reporter) (WasToldMost-none seen.reporter);
-  engine = engine;
-}
+    → HasInput (mode_of words) content (schedule_of words) None ended → CountsReads ended seen.read_faults seen.read_faults' seen.last_failed'
+    → seen.put_faults' ≡ seen.put_faults → seen.out' ≡ seen.out → seen.engine' ≡ seen.engine → seen.reporter' ≡ seen.reporter → IsRun answer_of problems_of content words seen ended []
+run_refused answer_of problems_of content words seen ended input reads puts out engine reporter =
+    let reading = told_reads ended seen.read_faults seen.read_faults' seen.last_failed' reads in record {
+      began = None;
+      input = input;
+      ran = refl;
+      legal = refl;
+      settled = refl;
+      output = subst (λ (now : Option Bytes). Wrote [] ended seen.out now) (sym out) (no_output (mode_of words) content (schedule_of words) ended seen.out input);
+      reading = reading;
+      named = names_refused (mode_of words) content (schedule_of words) ended input;
+      writing = no_write_fault (mode_of words) content (schedule_of words) ended seen.put_faults seen.put_faults' input puts;
+      complete = completes_refused content words seen ended input reading;
+      reported = subst (λ (now : ReporterState). WasToldMost [] seen.reporter now) (sym reporter) (WasToldMost-none seen.reporter);
+      engine = engine;
+    }
 
 -- ---- the line for the user may end a refused run out of memory
 
@@ -178,7 +188,7 @@ still_run answer_of problems_of content words seen (ending.Refused why) telling 
       output = rw run.output (grew_by_nothing (printed answer_of problems_of run.began journal) seen.out);
       reading = (run.reading.0, tt);
       named = tt;
-      writing = tt;
+      writing = run.writing;
       complete = λ lines alone is reads puts. inr refl;
       reported = run.reported;
       engine = run.engine;

@@ -122,7 +122,7 @@ session_nothing answer_of problems_of lines out put_faults state reporter fresh 
   legal = refl;
   settled = refl;
   output = grew_by_nothing (transcript answer_of problems_of lines []) out;
-  writing = tt;
+  writing = refl;
   reported = WasToldMost-none reporter;
   engine = record { sources = ap (λ s. s.sources) fresh; asks = ap (λ s. s.asks) fresh; staged = ap (λ s. s.staged) fresh };
 }

@@ -95,7 +95,7 @@ pub record IsRun (answer_of : Sources → Call → Answer) (problems_of : Source
   pub settled : all_settled journal ≡ true
   -- the output is what is printed of that journal, with the engine's answers and problems
   pub output : Wrote (printed answer_of problems_of began journal) ended seen.out seen.out'
-  -- a fault of reading or writing is told only where the count of the device rose
+  -- a fault of reading or writing is told exactly where the count of the device rose
   pub reading : HasReadFaults ended seen.read_faults seen.read_faults' seen.last_failed'
   -- and a fault of reading names the schedule, or a path of it
   pub named : NamesReadFile content (schedule_of words) ended

@@ -29,19 +29,29 @@ HasInput _ content schedule began ended = (began ≡ None) × (ended ≡ ending.
 
 -- ---- faults
 
-abbrev pub RoseAsTold : Ending → ℕ → ℕ → Option Bytes → Type 0
-RoseAsTold (ending.Refused why) before now last = RoseIfFault why before now last
-RoseAsTold _ before now last = ⊤
+-- A fault of reading comes exactly where the count of read faults rose, with the name of the last read that failed, where that
+-- is told. No fault is given up as out of memory.
+abbrev pub RoseAsRead : Ending → ℕ → ℕ → Option Bytes → Type 0
+RoseAsRead (ending.Refused why) before now last = RoseIfFault why before now last
+RoseAsRead _ before now last = now ≡ before
 
--- The count of read faults never falls, and a fault of reading comes only where it rose, with the name of the last read that
--- failed, where that is told.
+-- what reading the input did to the count of read faults
+abbrev pub CountsReads : Ending → ℕ → ℕ → Option Bytes → Type 0
+CountsReads ended before now last = (before ≤ now) × RoseAsRead ended before now last
+
+-- Of a fault a user may be told that there was no memory for its line.
+abbrev pub RoseAsTold : Ending → ℕ → ℕ → Option Bytes → Type 0
+RoseAsTold ending.NoMemory before now last = ⊤
+RoseAsTold ended before now last = RoseAsRead ended before now last
+
+-- The count of read faults never falls, and rises only as is told.
 abbrev pub HasReadFaults : Ending → ℕ → ℕ → Option Bytes → Type 0
 HasReadFaults ended before now last = (before ≤ now) × RoseAsTold ended before now last
 
--- a fault of writing comes only where the count of faults rose
+-- a fault of writing comes exactly where the count of faults rose
 abbrev pub HasWriteFault : Ending → ℕ → ℕ → Type 0
 HasWriteFault ending.WriteFault before now = Rose before now
-HasWriteFault _ before now = ⊤
+HasWriteFault _ before now = now ≡ before
 
 -- a fault of reading names a file that the run reads
 abbrev pub NamesReadFile : (Bytes → Option Bytes) → Bytes → Ending → Type 0

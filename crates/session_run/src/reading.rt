@@ -1,10 +1,10 @@
 //! Reads what the words ask for.
 
-ghost use Rattle.std.specs.Prelude.{◌≡◌, ◌≤◌, ℕ, List, None, Ok, map, string_bytes, IfOk, MatchResult};
+ghost use Rattle.std.specs.Prelude.{◌≡◌, ℕ, List, None, Ok, map, string_bytes, IfOk, MatchResult};
 ghost use Rattle.schedule_player.specs.Owed.{CanPlayAll};
 ghost use Rattle.session_input.specs.Input.{schedule_reading};
 ghost use Rattle.session_input.specs.Reads.{ComesTo};
-ghost use Rattle.session_run.specs.Reading.{IsReadAs, HasInput, HasReadFaults};
+ghost use Rattle.session_run.specs.Reading.{IsReadAs, HasInput, CountsReads};
 ghost use Rattle.session_run.specs.Words.{schedule_of};
 ghost use Rattle.session_run.specs.Words as words_spec;
 ghost use Rattle.session_run.specs.declared.modes.Mode.TheVariants as mode;
@@ -28,8 +28,8 @@ fn read_schedule<F: Files>(
         (λ ended. IsReadAs (F.content files.old) schedule.now None ended) }
     ensures can { IfOk result CanPlayAll }
     ensures reading { MatchResult result
-        (λ lines. F.faults files.old ≤ F.faults files.new)
-        (λ ended. HasReadFaults ended (F.faults files.old) (F.faults files.new) (F.last_failed files.new)) }
+        (λ lines. F.faults files.new ≡ F.faults files.old)
+        (λ ended. CountsReads ended (F.faults files.old) (F.faults files.new) (F.last_failed files.new)) }
 {
     let schedule = match Text::new(alloc, schedule) {
         Ok(schedule) => schedule,
@@ -54,8 +54,8 @@ pub fn read_input<F: Files>(
         (λ ended. HasInput (words_spec.mode_of (map string_bytes words.now)) (F.content files.old) (schedule_of (map string_bytes words.now)) None ended) }
     ensures can { IfOk result CanPlayAll }
     ensures reading { MatchResult result
-        (λ lines. F.faults files.old ≤ F.faults files.new)
-        (λ ended. HasReadFaults ended (F.faults files.old) (F.faults files.new) (F.last_failed files.new)) }
+        (λ lines. F.faults files.new ≡ F.faults files.old)
+        (λ ended. CountsReads ended (F.faults files.old) (F.faults files.new) (F.last_failed files.new)) }
 {
     match mode_of(words) {
         Mode::Alone => match words {

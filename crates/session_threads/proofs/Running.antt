@@ -1,5 +1,5 @@
 -- A run of clients from its words to its line for the user.
-use Rattle.std.proofs.Common.{◌≡◌, ◌⊎◌, inl, inr, ℕ, ◌≤◌, ◌||◌, Bool, true, false, List, [], ◌∷◌, ◌++◌, Option, Some, None, Ok, refl, sym, ap, ◌∙◌, subst}
+use Rattle.std.proofs.Common.{◌≡◌, ◌⊎◌, inl, inr, ℕ, ◌||◌, Bool, true, false, List, [], ◌∷◌, ◌++◌, Option, Some, None, Ok, refl, sym, ap, ◌∙◌, subst, arith}
 use Rattle.std.specs.Prelude.{⊤}
 use Rattle.pc_terms.specs.Bytes.{Bytes}
 use Rattle.pc_terms.specs.declared.problems.Problem.{Problem}
@@ -21,7 +21,7 @@ use Rattle.session_input.specs.declared.refusal.Refusal.TheVariants as refusal
 use Rattle.session_input.proofs.ClientLemmas.{fault_names_clients}
 use Rattle.session_input.proofs.ReadLemmas.{fault_or_told}
 use Rattle.session_run.specs.Printed.{Wrote}
-use Rattle.session_run.specs.Reading.{HasReadFaults, HasWriteFault}
+use Rattle.session_run.specs.Reading.{CountsReads, HasReadFaults, HasWriteFault}
 use Rattle.session_run.specs.Run.{IsSessionEnding}
 use Rattle.session_run.specs.Telling.{IsOrNoMemory}
 use Rattle.session_run.specs.Words.{mode_of, clients_of}
@@ -29,7 +29,7 @@ use Rattle.session_run.specs.declared.ending.Ending.{Ending}
 use Rattle.session_run.specs.declared.ending.Ending.TheVariants as ending
 use Rattle.session_run.specs.declared.modes.Mode.{Mode}
 use Rattle.session_run.specs.declared.modes.Mode.TheVariants.{Alone, Threads, Bad}
-use Rattle.session_run.proofs.RunLemmas.{risen_for}
+use Rattle.session_run.proofs.RunLemmas.{risen_for, told_reads}
 use Rattle.session_run.proofs.SessionLemmas.{grew_by_nothing}
 use Rattle.transcript.specs.Transcript.{session_text}
 use Rattle.session_threads.specs.Owed.{Seen, IsClientsJournal, printed, Completes, IsClientsRun}
@@ -63,13 +63,13 @@ module _ (answer_of : Sources → Call → Answer) (problems_of : Sources → By
   completes ending.Usage ends writing spawning = absurd ends
   completes (ending.Refused why) ends writing spawning = absurd ends
 
-  no_read_fault : (ended : Ending) → IsPlayed ended → seen.read_faults ≤ seen.read_faults' → HasReadFaults ended seen.read_faults seen.read_faults' seen.last_failed'
-  no_read_fault ending.Done ends risen = (risen, tt)
-  no_read_fault ending.NoMemory ends risen = (risen, tt)
-  no_read_fault ending.WriteFault ends risen = (risen, tt)
-  no_read_fault ending.SpawnFault ends risen = (risen, tt)
-  no_read_fault ending.Usage ends risen = absurd ends
-  no_read_fault (ending.Refused why) ends risen = absurd ends
+  no_read_fault : (ended : Ending) → IsPlayed ended → seen.read_faults' ≡ seen.read_faults → HasReadFaults ended seen.read_faults seen.read_faults' seen.last_failed'
+  no_read_fault ending.Done ends same = (omega (arith, same), same)
+  no_read_fault ending.NoMemory ends same = (omega (arith, same), tt)
+  no_read_fault ending.WriteFault ends same = (omega (arith, same), same)
+  no_read_fault ending.SpawnFault ends same = (omega (arith, same), same)
+  no_read_fault ending.Usage ends same = absurd ends
+  no_read_fault (ending.Refused why) ends same = absurd ends
 
   no_name : (ended : Ending) → IsPlayed ended → NamesClientFile content (clients_of words) ended
   no_name ending.Done ends = tt
@@ -79,7 +79,7 @@ module _ (answer_of : Sources → Call → Answer) (problems_of : Sources → By
   no_name ending.Usage ends = absurd ends
   no_name (ending.Refused why) ends = absurd ends
 
-  module _ (scripts : List Script) (journal : List Event) (found : List (List Problem)) (threads : mode_of words ≡ Threads) (read : ComesTo content (clients_reading (clients_of words)) (Ok scripts)) (risen : seen.read_faults ≤ seen.read_faults') (reported : WasToldMost (findings problems_of journal) seen.reporter seen.reporter') where
+  module _ (scripts : List Script) (journal : List Event) (found : List (List Problem)) (threads : mode_of words ≡ Threads) (read : ComesTo content (clients_reading (clients_of words)) (Ok scripts)) (same : seen.read_faults' ≡ seen.read_faults) (reported : WasToldMost (findings problems_of journal) seen.reporter seen.reporter') where
     -- the run, where it is known what began
     began_so : (became : Fate) (ended : Ending) (began : Option (List Script)) → IsSession answer_of problems_of scripts became journal found → IsPlayed ended
         → AreReadAs content (clients_of words) began ended → IsClientsJournal began ended journal → Wrote (printed answer_of problems_of began journal) ended seen.out seen.out'
@@ -91,7 +91,7 @@ module _ (answer_of : Sources → Call → Answer) (problems_of : Sources → By
       legal = session.legal;
       settled = session.settled;
       output = output;
-      reading = no_read_fault ended ends risen;
+      reading = no_read_fault ended ends same;
       named = no_name ended ends;
       writing = writing;
       spawning = spawning;
@@ -122,6 +122,9 @@ module _ (answer_of : Sources → Call → Answer) (problems_of : Sources → By
     run_ended played answers ending.SpawnFault session ends wrote writing = absurd ends
     run_ended played answers (ending.Refused why) session ends wrote writing = absurd ends
 
+    counted : (expected ended : Ending) → ended ≡ expected → HasWriteFault ended seen.put_faults seen.put_faults' → HasWriteFault expected seen.put_faults seen.put_faults'
+    counted expected ended is writing = subst (λ (e : Ending). HasWriteFault e seen.put_faults seen.put_faults') is writing
+
     nothing_more : (text : Bytes) → seen.out' ≡ seen.out → Wrote text ending.NoMemory seen.out seen.out'
     nothing_more text same = subst (λ (now : Option Bytes). Wrote text ending.NoMemory seen.out now) (sym same) (grew_by_nothing text seen.out)
 
@@ -130,13 +133,13 @@ module _ (answer_of : Sources → Call → Answer) (problems_of : Sources → By
     run_of (fate.Played played answers) ended session ends wrote writing rose = run_ended played answers ended session ends wrote writing
     run_of fate.CutShort ended session ends wrote writing rose =
         subst (λ (e : Ending). IsClientsRun answer_of problems_of content words seen e journal) (sym ends)
-        (began_so fate.CutShort ending.NoMemory (Some scripts) session tt (tt, read) session.comes (nothing_more _ wrote) tt tt)
+        (began_so fate.CutShort ending.NoMemory (Some scripts) session tt (tt, read) session.comes (nothing_more _ wrote) (counted ending.NoMemory ended ends writing) tt)
     run_of fate.Unbegun ended session ends wrote writing rose =
         subst (λ (e : Ending). IsClientsRun answer_of problems_of content words seen e journal) (sym ends)
-        (began_so fate.Unbegun ending.SpawnFault (Some scripts) session tt (tt, read) session.comes wrote tt rose)
+        (began_so fate.Unbegun ending.SpawnFault (Some scripts) session tt (tt, read) session.comes wrote (counted ending.SpawnFault ended ends writing) rose)
     run_of fate.Unopened ended session ends wrote writing rose =
         subst (λ (e : Ending). IsClientsRun answer_of problems_of content words seen e journal) (sym ends)
-        (began_so fate.Unopened ending.NoMemory None session tt tt session.comes (nothing_more [] wrote) tt tt)
+        (began_so fate.Unopened ending.NoMemory None session tt tt session.comes (nothing_more [] wrote) (counted ending.NoMemory ended ends writing) tt)
 
 -- ---- no session
 
@@ -165,13 +168,13 @@ no_output ending.Done out early = absurd early
 no_output ending.WriteFault out early = absurd early
 no_output ending.SpawnFault out early = absurd early
 
-no_write_fault : (ended : Ending) (before now : ℕ) → IsEarly ended → HasWriteFault ended before now
-no_write_fault ending.Usage before now early = tt
-no_write_fault (ending.Refused why) before now early = tt
-no_write_fault ending.NoMemory before now early = tt
-no_write_fault ending.Done before now early = absurd early
-no_write_fault ending.WriteFault before now early = absurd early
-no_write_fault ending.SpawnFault before now early = absurd early
+no_write_fault : (ended : Ending) (before now : ℕ) → IsEarly ended → now ≡ before → HasWriteFault ended before now
+no_write_fault ending.Usage before now early same = same
+no_write_fault (ending.Refused why) before now early same = same
+no_write_fault ending.NoMemory before now early same = same
+no_write_fault ending.Done before now early same = absurd early
+no_write_fault ending.WriteFault before now early same = absurd early
+no_write_fault ending.SpawnFault before now early same = absurd early
 
 no_spawn_fault : (ended : Ending) (before now : ℕ) → IsEarly ended → HasSpawnFault ended before now
 no_spawn_fault ending.Usage before now early = tt
@@ -208,9 +211,10 @@ completes_refused content words seen ended input reading scripts threads is read
     by ending.SpawnFault refused read = absurd refused
 
 pub run_refused : (answer_of : Sources → Call → Answer) (problems_of : Sources → Bytes → List Problem) (content : Bytes → Option Bytes) (words : List Bytes) (seen : Seen) (ended : Ending)
-    → HaveInput (mode_of words) content (clients_of words) None ended → HasReadFaults ended seen.read_faults seen.read_faults' seen.last_failed'
-    → seen.out' ≡ seen.out → seen.reporter' ≡ seen.reporter → IsClientsRun answer_of problems_of content words seen ended []
-run_refused answer_of problems_of content words seen ended input reading out reporter =
+    → HaveInput (mode_of words) content (clients_of words) None ended → CountsReads ended seen.read_faults seen.read_faults' seen.last_failed'
+    → seen.put_faults' ≡ seen.put_faults → seen.out' ≡ seen.out → seen.reporter' ≡ seen.reporter → IsClientsRun answer_of problems_of content words seen ended []
+run_refused answer_of problems_of content words seen ended input reads puts out reporter =
+    let reading = told_reads ended seen.read_faults seen.read_faults' seen.last_failed' reads in
     let early : IsEarly ended = is_early (mode_of words) content (clients_of words) ended input in record {
       began = None;
       input = input;
@@ -220,7 +224,7 @@ run_refused answer_of problems_of content words seen ended input reading out rep
       output = subst (λ (now : Option Bytes). Wrote [] ended seen.out now) (sym out) (no_output ended seen.out early);
       reading = reading;
       named = names_refused (mode_of words) content (clients_of words) ended input;
-      writing = no_write_fault ended seen.put_faults seen.put_faults' early;
+      writing = no_write_fault ended seen.put_faults seen.put_faults' early puts;
       spawning = no_spawn_fault ended seen.spawn_faults seen.spawn_faults' early;
       complete = completes_refused content words seen ended input reading;
       reported = subst (λ (now : ReporterState). WasToldMost [] seen.reporter now) (sym reporter) (WasToldMost-none seen.reporter);
@@ -259,7 +263,7 @@ still_run answer_of problems_of content words seen ended telling journal told ru
           output = rw r.output (grew_by_nothing (printed answer_of problems_of r.began journal) seen.out);
           reading = (r.reading.0, tt);
           named = tt;
-          writing = tt;
+          writing = r.writing;
           spawning = tt;
           complete = λ scripts threads is reads puts spawns. inr refl;
           reported = r.reported;

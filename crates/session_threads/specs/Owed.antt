@@ -90,7 +90,7 @@ pub record IsClientsRun (answer_of : Sources → Call → Answer) (problems_of :
   pub settled : all_settled journal ≡ true
   -- the output is what is printed of that journal, with the engine's answers and problems
   pub output : Wrote (printed answer_of problems_of began journal) ended seen.out seen.out'
-  -- a fault of reading, of writing or of starting threads is told only where the count of the device rose
+  -- a fault of reading or of writing is told exactly where the count of the device rose, and one of starting threads only there
   pub reading : HasReadFaults ended seen.read_faults seen.read_faults' seen.last_failed'
   -- and a fault of reading names a script, or a path of one
   pub named : NamesClientFile content (clients_of words) ended

@@ -2,7 +2,7 @@
 ghost use Rattle.std.specs.Prelude.{◌≡◌, ◌≤◌, length, map, string_bytes, None, Ok, IfOk, MatchResult};
 ghost use Rattle.session_input.specs.Clients.{clients_reading};
 ghost use Rattle.session_input.specs.Reads.{ComesTo};
-ghost use Rattle.session_run.specs.Reading.{HasReadFaults};
+ghost use Rattle.session_run.specs.Reading.{CountsReads};
 ghost use Rattle.session_run.specs.Words as words_spec;
 ghost use Rattle.session_run.specs.declared.modes.Mode.TheVariants as mode;
 ghost use Rattle.session_threads.specs.Clients.{CanPlayAll};
@@ -27,8 +27,8 @@ fn read_scripts<F: Files>(
     ensures few { IfOk result (λ scripts. length scripts ≤ 32) }
     ensures can { IfOk result CanPlayAll }
     ensures reading { MatchResult result
-        (λ scripts. F.faults files.old ≤ F.faults files.new)
-        (λ ended. HasReadFaults ended (F.faults files.old) (F.faults files.new) (F.last_failed files.new)) }
+        (λ scripts. F.faults files.new ≡ F.faults files.old)
+        (λ ended. CountsReads ended (F.faults files.old) (F.faults files.new) (F.last_failed files.new)) }
 {
     match read_clients_input(alloc, files, names) {
         Ok(scripts) => Ok(scripts),
@@ -50,8 +50,8 @@ pub(crate) fn read_clients<F: Files>(
     ensures few { IfOk result (λ scripts. length scripts ≤ 32) }
     ensures can { IfOk result CanPlayAll }
     ensures reading { MatchResult result
-        (λ scripts. F.faults files.old ≤ F.faults files.new)
-        (λ ended. HasReadFaults ended (F.faults files.old) (F.faults files.new) (F.last_failed files.new)) }
+        (λ scripts. F.faults files.new ≡ F.faults files.old)
+        (λ ended. CountsReads ended (F.faults files.old) (F.faults files.new) (F.last_failed files.new)) }
 {
     match mode_of(words) {
         Mode::Threads => match words {

@@ -1,4 +1,4 @@
-use Rattle.std.proofs.Common.{◌≤◌, ◌<◌, map, length, string_bytes, arith}
+use Rattle.std.proofs.Common.{◌≤◌, ◌<◌, ◌∙◌, map, length, string_bytes, arith}
 use Rattle.std.proofs.lemmas.List.{length-map}
 use Rattle.script_text.specs.Texts.{script_with}
 use Rattle.session_input.specs.Limits.{most_of}
@@ -47,7 +47,7 @@ pub returns-in-Ok-read_all_sources-clause-counts : goal.returns-in-Ok-read_all_s
 returns-in-Ok-read_all_sources-clause-counts g c =
     scripts_within_counts (map (script_with c.in-Ok-read_all_sources.sources.entries) c.in-Ok.scripts) (g.F.Files.content c.args.files.now) c.scripts_within.result
     (g.F.Files.faults c.args.files.now) (g.F.Files.faults c.read_all_sources.new.files) (g.F.Files.last_failed c.read_all_sources.new.files)
-    (c.scripts_within.ensures (g.F.Files.content c.args.files.now)) (omega (arith, c.in-Ok.ensures.counts, c.in-Ok-read_all_sources.ensures.counts))
+    (c.scripts_within.ensures (g.F.Files.content c.args.files.now)) (c.in-Ok-read_all_sources.ensures.counts ∙ c.in-Ok.ensures.counts)
 
 pub returns-in-Err-read_all_sources-clause-comes : goal.returns-in-Err-read_all_sources-clause-comes
 returns-in-Err-read_all_sources-clause-comes g c =

@@ -1,4 +1,4 @@
-use Rattle.std.proofs.Common.{map, arith}
+use Rattle.std.proofs.Common.{map, ◌∙◌}
 use Rattle.script_text.specs.Texts.{line_with}
 use Rattle.script_text.specs.declared.kinds.ScriptKind.TheVariants as kind
 use Rattle.session_input.specs.Sources.{script_reading, pairs_in}
@@ -29,7 +29,7 @@ pub returns-in-Ok-read_sources-clause-counts : goal.returns-in-Ok-read_sources-c
 returns-in-Ok-read_sources-clause-counts g c =
     within_counts (map (line_with c.in-Ok-read_sources.sources.entries) c.in-Ok.lines) (g.F.Files.content c.args.files.now) c.lines_within.result
     (g.F.Files.faults c.args.files.now) (g.F.Files.faults c.read_sources.new.files) (g.F.Files.last_failed c.read_sources.new.files)
-    (c.lines_within.ensures.comes (g.F.Files.content c.args.files.now)) (omega (arith, c.in-Ok.ensures.counts, c.in-Ok-read_sources.ensures.counts))
+    (c.lines_within.ensures.comes (g.F.Files.content c.args.files.now)) (c.in-Ok-read_sources.ensures.counts ∙ c.in-Ok.ensures.counts)
 
 pub returns-in-Err-read_sources-clause-comes : goal.returns-in-Err-read_sources-clause-comes
 returns-in-Err-read_sources-clause-comes g c =

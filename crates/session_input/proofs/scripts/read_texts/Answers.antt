@@ -32,7 +32,7 @@ loop-name-preserved g c =
     record {
       leads = rw (names-more string_bytes names i name within c.name-item.is) (leads-more c.loop-name.invariant.leads own_name);
       content = λ other. c.in-Ok.ensures.content other ∙ c.loop-name.invariant.content other;
-      counts = omega (arith, c.in-Ok.ensures.counts);
+      counts = c.in-Ok.ensures.counts ∙ c.loop-name.invariant.counts;
     }
 
 pub returns-clause-comes : goal.returns-clause-comes

@@ -32,7 +32,7 @@ loop-script-preserved g c =
     record {
       leads = rw (pairs_in_scripts-more scripts i script within c.script-item.is) (leads-more c.loop-script.invariant.leads own_pairs);
       content = λ other. c.in-Ok.ensures.content other ∙ c.loop-script.invariant.content other;
-      counts = omega (arith, c.in-Ok.ensures.counts);
+      counts = c.in-Ok.ensures.counts ∙ c.loop-script.invariant.counts;
     }
 
 pub returns-clause-comes : goal.returns-clause-comes

@@ -32,7 +32,7 @@ loop-line-preserved g c =
     record {
       leads = rw (pairs_in-more lines i line within c.line-item.is) (leads-more c.loop-line.invariant.leads own_pairs);
       content = λ other. c.in-Ok.ensures.content other ∙ c.loop-line.invariant.content other;
-      counts = omega (arith, c.in-Ok.ensures.counts);
+      counts = c.in-Ok.ensures.counts ∙ c.loop-line.invariant.counts;
     }
 
 pub returns-clause-comes : goal.returns-clause-comes

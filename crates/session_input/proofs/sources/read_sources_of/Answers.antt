@@ -31,5 +31,5 @@ loop-pair-preserved g c =
     record {
       leads = rw (take_one_more pairs i pair within c.pair-item.is) (leads-more c.loop-pair.invariant.leads own);
       content = λ other. c.in-Ok.ensures.content other ∙ c.loop-pair.invariant.content other;
-      counts = omega (arith, c.in-Ok.ensures.counts);
+      counts = c.in-Ok.ensures.counts ∙ c.loop-pair.invariant.counts;
     }

@@ -6,7 +6,7 @@ pub returns-in-Err-clause-run : goal.returns-in-Err-clause-run
 returns-in-Err-clause-run g c =
     rw (c.unbegun.ensures.ending, c.unbegun.ensures.journal, c.unbegun.ensures.reporter)
     (run_refused g.N.Engine.answer_of g.N.Engine.problems_of (g.F.Files.content c.args.files.now) (map string_bytes c.args.words.now) _ c.in-Err.ending
-    c.in-Err.ensures.input c.in-Err.ensures.reading refl refl)
+    c.in-Err.ensures.input c.in-Err.ensures.reading refl refl refl)
 
 pub returns-clause-run : goal.returns-clause-run
 returns-clause-run g c =

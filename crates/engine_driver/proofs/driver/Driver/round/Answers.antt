@@ -1,4 +1,4 @@
-use Rattle.std.proofs.Common.{refl, sym, ◌∙◌, ap}
+use Rattle.std.proofs.Common.{inl, inr, Some, None, refl, sym, ◌∙◌, ap, arith}
 use Rattle.std.specs.List.{find}
 use Rattle.report_hub.proofs.Reports.{OfEach-told_none}
 use Rattle.ask_history.specs.Journal.{is_cancelled}
@@ -48,3 +48,36 @@ returns-in-None-clause-made g c =
 
 pub returns-in-None-2-clause-made : goal.returns-in-None-2-clause-made
 returns-in-None-2-clause-made g c = made_behind g.E.Engine.answer_of g.E.Engine.problems_of _ _ _ _ _ _ c.look-news.ensures.later c.turn.ensures.made
+
+pub returns-in-Some-clause-goes_on : goal.returns-in-Some-clause-goes_on
+returns-in-Some-clause-goes_on g c = λ go. record {
+  looked = g.B.Board.history c.look-news.new.self;
+  later = c.look-news.ensures.later;
+  more = c.settle_ask.ensures.adds.entries;
+  behind = c.settle_ask.ensures.adds.behind;
+  cancelled = Some c.in-Some.ticket;
+  first = sym (ap (find (is_cancelled (journal_of (g.B.Board.history c.look-news.new.self)))) c.as_slice.ensures.value) ∙ sym c.look-news.ensures.cancelled ∙ c.in-Some.is;
+  does = c.settle_ask.ensures.opened;
+}
+
+pub returns-in-None-clause-goes_on : goal.returns-in-None-clause-goes_on
+returns-in-None-clause-goes_on g c = λ go. record {
+  looked = g.B.Board.history c.look-news.new.self;
+  later = c.look-news.ensures.later;
+  more = c.take_next.ensures.adds.entries;
+  behind = c.take_next.ensures.adds.behind;
+  cancelled = None;
+  first = sym (ap (find (is_cancelled (journal_of (g.B.Board.history c.look-news.new.self)))) c.as_slice.ensures.value) ∙ sym c.look-news.ensures.cancelled ∙ c.in-None.is;
+  does = inl (omega arith, c.take_next.ensures.next);
+}
+
+pub returns-in-None-2-clause-goes_on : goal.returns-in-None-2-clause-goes_on
+returns-in-None-2-clause-goes_on g c = λ go. record {
+  looked = g.B.Board.history c.look-news.new.self;
+  later = c.look-news.ensures.later;
+  more = c.turn.ensures.made.adds.entries;
+  behind = c.turn.ensures.made.adds.behind;
+  cancelled = None;
+  first = sym (ap (find (is_cancelled (journal_of (g.B.Board.history c.look-news.new.self)))) c.as_slice.ensures.value) ∙ sym c.look-news.ensures.cancelled ∙ c.in-None-2.is;
+  does = inr (omega arith, c.turn.ensures.goes_on);
+}

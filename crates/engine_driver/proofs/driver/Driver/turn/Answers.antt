@@ -2,6 +2,7 @@ use Rattle.std.proofs.Common.{refl, sym, ◌∙◌, ap, subst}
 use Rattle.report_hub.proofs.Reports.{OfEach-told_none}
 use Rattle.ask_history.specs.Engine.{EngineState}
 use Rattle.engine_driver.specs.History.{journal_of}
+use Rattle.engine_driver.specs.Runs.{Types, TakesOff, Checks, Skips, Waits}
 use Rattle.engine_driver.specs.Serving.{Drives}
 use Rattle.engine_driver.proofs.Later.{drives_later}
 use Rattle.engine_driver.proofs.Additions.{adds_later, adds_none, made_quiet}
@@ -54,3 +55,23 @@ returns-clause-drives g c =
 pub returns-clause-made : goal.returns-clause-made
 returns-clause-made g c =
     made_quiet g.E.Engine.answer_of g.E.Engine.problems_of _ _ _ _ _ (OfEach-told_none _ _ _) refl (adds_later g.E.Engine.answer_of g.E.Engine.problems_of _ _ c.await_calls.ensures.later)
+
+pub returns-in-Safe-clause-goes_on : goal.returns-in-Safe-clause-goes_on
+returns-in-Safe-clause-goes_on g c = Types c.in-Safe.ensures.lowers
+
+pub returns-in-Ready-clause-goes_on : goal.returns-in-Ready-clause-goes_on
+returns-in-Ready-clause-goes_on g c =
+    let told = c.in-Ready.ensures.gives.0 in
+    TakesOff _ (told.0, told.1) c.settle_ask.ensures.opened
+
+pub returns-in-NoMemory-clause-goes_on : goal.returns-in-NoMemory-clause-goes_on
+returns-in-NoMemory-clause-goes_on g c = TakesOff _ c.in-NoMemory.ensures.gives.0 c.settle_ask-in-NoMemory.ensures.opened
+
+pub returns-in-Checked-clause-goes_on : goal.returns-in-Checked-clause-goes_on
+returns-in-Checked-clause-goes_on g c = Checks _ c.in-Checked.ensures.gives.0 c.in-Checked.ensures.gives.2
+
+pub returns-in-CheckNoMemory-clause-goes_on : goal.returns-in-CheckNoMemory-clause-goes_on
+returns-in-CheckNoMemory-clause-goes_on g c = Skips _ c.in-CheckNoMemory.ensures.gives.0 c.in-CheckNoMemory.ensures.gives.1
+
+pub returns-clause-goes_on : goal.returns-clause-goes_on
+returns-clause-goes_on g c = Waits c.in-Idle.ensures.gives.0 c.await_calls.ensures
