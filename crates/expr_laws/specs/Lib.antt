@@ -1,0 +1,4 @@
+pub mod Exactly
+pub mod Items
+pub mod Newlines
+pub mod Pictures
