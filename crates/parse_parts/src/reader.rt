@@ -92,10 +92,11 @@ fn state_behind(
     ensures { IfOk result (LeadsTo (take count (map (lexeme_of text.now) tokens.now))) }
 {
     if count == reading.reached {
-        Ok(reading.state)
-    } else {
-        Ok(read(alloc, text, &tokens[..count as usize])?.state)
+        return Ok(reading.state);
     }
+    drop(reading);
+    let again = read(alloc, text, &tokens[..count as usize])?;
+    Ok(again.state)
 }
 
 /// The part whose tree this is, with the trees' numbers.

@@ -99,10 +99,11 @@ fn state_behind(
     ensures { IfOk result (λ state. run (reader).step (take count (map (lexeme_of text.now) tokens.now)) (reader).start ≡ Some state) }
 {
     if count == reading.reached {
-        Ok(reading.state)
-    } else {
-        Ok(read(alloc, text, &tokens[..count as usize])?.state)
+        return Ok(reading.state);
     }
+    drop(reading);
+    let again = read(alloc, text, &tokens[..count as usize])?;
+    Ok(again.state)
 }
 
 // Reads the longest pattern that these tokens begin with. The first of them is token `at`.

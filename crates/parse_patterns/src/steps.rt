@@ -334,7 +334,10 @@ fn numbered(alloc: Global, tail: Tail, token: Token, word: &str) -> Result<Opera
             };
             Ok(leaf(alloc, text, span))
         }
-        _tail => Ok(leaf(alloc, Text::new(alloc, word)?, token.span)),
+        tail => {
+            drop(tail);
+            Ok(leaf(alloc, Text::new(alloc, word)?, token.span))
+        }
     }
 }
 

@@ -16,7 +16,7 @@ pub returns-then-count-reading : goal.returns-then-count-reading
 returns-then-count-reading c =
     behind-here reader (map (lexeme_of c.args.text.now) c.args.tokens.now) _ c.args.reading.reached c.args.count _ c.requires.longest c.if-count-reading.true
 
-pub returns-in_ok-read : goal.returns-in_ok-read
-returns-in_ok-read c =
+pub returns : goal.returns
+returns c =
     behind-again reader (map (lexeme_of c.args.text.now) c.args.tokens.now) _ _ c.args.reading.reached c.args.count _ _ c.requires.longest
-    (ap (reading_of reader anything) (take-map (lexeme_of c.args.text.now) c.args.count c.args.tokens.now) ∙ c.in_ok-read.ensures)
+    (ap (reading_of reader anything) (take-map (lexeme_of c.args.text.now) c.args.count c.args.tokens.now) ∙ c.in_ok-again.ensures)
