@@ -44,7 +44,7 @@ use Rattle.expr_laws.proofs.TokenSteps.{if-true}
 
 -- ---- newlines
 
-both-ends : (ended : Bool) (xs ys : List Lexeme) → newlines_end ended xs ≡ true → newlines_end (ended_by ended xs) ys ≡ true → newlines_end ended (xs ++ ys) ≡ true
+pub both-ends : (ended : Bool) (xs ys : List Lexeme) → newlines_end ended xs ≡ true → newlines_end (ended_by ended xs) ys ≡ true → newlines_end ended (xs ++ ys) ≡ true
 both-ends ended [] ys e f = f
 both-ends ended (x ∷ xs) ys e f =
     let first : Bool = ended || not (has_newline x.place.before) in
@@ -160,7 +160,7 @@ module _ (rule : Rule) where
     go (Some t) f g = record { there = t; runs = f; same = (let same : shown t ≡ u = cc in same) }
 
   -- no pattern ends in a `.`
-  dotless : (l : Limit) (s : Tail) → GoodTail rule l s → is_dotted_tail s ≡ false
+  pub dotless : (l : Limit) (s : Tail) → GoodTail rule l s → is_dotted_tail s ≡ false
   dotless l (InPattern p) g = go p.current g.current where
     go : (q : patterns.Current) → is_generator_current q ≡ true → is_dotted q ≡ false
     go (patterns.InInfix b os (patterns.AtDot path d)) e = cc

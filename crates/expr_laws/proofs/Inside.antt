@@ -31,7 +31,7 @@ if-when : {A : Type 0} → (b : Bool) (a : A) → when b a ≡ (if b then Some a
 if-when true a = refl
 if-when false a = refl
 
-any-type : (t : types.State) (x : Lexeme)
+pub any-type : (t : types.State) (x : Lexeme)
     → when (type_spec.admits (type_shown.shown t) (type_symbol x)) (type_on (type_shown.shown t) x) ≡ option_map type_shown.shown (types.step t x)
 any-type t x = if-when _ _ ∙ type_moves.step-same t x
 

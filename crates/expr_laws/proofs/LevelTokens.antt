@@ -76,7 +76,7 @@ square-opens : (p : Place) → role (open_square p) ≡ Opens Square
 unfolding delimiter_role
 square-opens p = refl
 
-square-closes : (p : Place) → role (close_square p) ≡ Closes Square
+pub square-closes : (p : Place) → role (close_square p) ≡ Closes Square
 unfolding delimiter_role
 square-closes p = refl
 

@@ -1,0 +1,5 @@
+pub mod Definitions
+pub mod Heads
+pub mod Modifiers
+pub mod Params
+pub mod Declarations
