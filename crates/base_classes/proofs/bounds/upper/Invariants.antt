@@ -1,0 +1,10 @@
+use Rattle.std.proofs.Common.{◌≡◌, ◌-◌, []}
+use Rattle.item_answers.specs.Asking.{answer}
+use Rattle.class_parents.specs.Parents.{max_steps}
+use Rattle.base_classes.specs.BaseTypes.{bounded}
+use Rattle.base_classes.proofs.bounds.upper.Given as goal
+
+-- what the steps that are left come to is what all come to
+abbrev pub invariant-loop-step : goal.invariant-loop-step
+invariant-loop-step g l =
+    answer (g.I.Infos.known l.infos) (bounded (max_steps - l._step) l.seen.keys l.bound) ≡ answer (g.I.Infos.known l.infos) (bounded max_steps [] l.ty)

@@ -1,0 +1,4 @@
+pub mod Laws
+pub mod Linearisation
+pub mod Parents
+pub mod Walk
