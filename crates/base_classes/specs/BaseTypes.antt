@@ -1,5 +1,5 @@
 -- Base types: a type seen as one of a class that it is derived from (SLS 3.4).
-use Rattle.std.specs.Prelude.{ℕ, zero, suc, Bool, if◌then◌else◌, List, [], ◌∷◌, ◌++◌, map, Option, None, Some, slice_get}
+use Rattle.std.specs.Prelude.{ℕ, zero, suc, if◌then◌else◌, List, [], ◌∷◌, ◌++◌, map, Option, None, Some, slice_get}
 use Rattle.item_questions.specs.Questions.{Gives, bind}
 use Rattle.pc_terms.specs.declared.symbols.SymPath.{SymPath}
 use Rattle.pc_terms.specs.declared.types.Formal.{Formal}

@@ -1,5 +1,5 @@
 -- The steps of the rules that follow parents, under the values that are known.
-use Rattle.std.proofs.Common.{◌≡◌, ℕ, suc, ◌+◌, ◌-◌, ◌<◌, Bool, true, false, if◌then◌else◌, List, [], ◌∷◌, ◌++◌, Result, IsErrAnd, MatchResult, refl, sym, ap, subst, ◌∙◌}
+use Rattle.std.proofs.Common.{◌≡◌, ℕ, suc, ◌+◌, ◌-◌, ◌<◌, true, false, if◌then◌else◌, List, [], ◌∷◌, ◌++◌, Result, IsErrAnd, MatchResult, refl, sym, ap, subst, ◌∙◌}
 use Rattle.item_questions.specs.Questions.{Gives, Answer, Known, Infos, run, bind}
 use Rattle.pc_terms.specs.declared.items.Item.{Item}
 use Rattle.pc_terms.specs.declared.items.ItemValue.{ItemValue}

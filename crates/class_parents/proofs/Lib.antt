@@ -1,6 +1,5 @@
 pub mod Counted
 pub mod Following
-pub mod FromTheEnd
 pub mod Lines
 pub mod Lists
 pub mod Once

@@ -6,7 +6,7 @@ use Rattle.pc_terms.specs.declared.items.Item.{Item}
 use Rattle.pc_terms.specs.declared.items.ItemValue.{ItemValue}
 use Rattle.pc_terms.specs.declared.symbols.SymPath.{SymPath}
 use Rattle.pc_terms.specs.declared.types.Ty.{Ty}
-use Rattle.item_answers.specs.Asking.{Asking, each}
+use Rattle.item_answers.specs.Asking.{each}
 use Rattle.item_answers.proofs.Binding.{followed_by, run-bind}
 use Rattle.class_parents.specs.Parents.{classes_of, followed}
 use Rattle.class_parents.specs.Linearisation.{behind_each_other, linearised}

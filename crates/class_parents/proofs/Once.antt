@@ -1,8 +1,8 @@
 -- A linearisation begins with its class, has each class once, and ends with that of the first parent.
-use Rattle.std.proofs.Common.{◌≡◌, ℕ, zero, suc, ◌≤◌, Bool, true, false, not, cond, ◌&&◌, ◌||◌, List, [], ◌∷◌, ◌++◌, Some, refl, sym, ap, subst, ◌∙◌, true≢false, ◌⊎◌, inl, inr, arith}
+use Rattle.std.proofs.Common.{◌≡◌, ℕ, zero, suc, ◌≤◌, Bool, true, false, not, cond, ◌&&◌, ◌||◌, List, [], ◌∷◌, ◌++◌, Some, refl, sym, ap, subst, ◌∙◌, true≢false, inl, inr, arith}
 use Rattle.std.specs.Prelude.{⊤}
 use Rattle.std.specs.List.{filter}
-use Rattle.item_questions.specs.Questions.{Known, Infos, run}
+use Rattle.item_questions.specs.Questions.{Known, Infos}
 use Rattle.item_questions.proofs.Answers.{known-injective}
 use Rattle.pc_terms.specs.declared.items.Item.{Item}
 use Rattle.pc_terms.specs.declared.items.ItemValue.{ItemValue}
@@ -10,11 +10,11 @@ use Rattle.pc_terms.specs.declared.symbols.SymPath.{SymPath}
 use Rattle.pc_terms.specs.declared.types.Ty.{Ty}
 use Rattle.type_substitution.specs.Substitution.{path_eq}
 use Rattle.type_substitution.proofs.Exact.{path-exact}
-use Rattle.class_parents.specs.Laws.{EachOnce, IsLine}
+use Rattle.class_parents.specs.Laws.{EachOnce}
 use Rattle.class_parents.specs.Linearisation.{behind_each_other, onto}
-use Rattle.class_parents.specs.Parents.{class_of, classes_of, listed, followed, is_in}
+use Rattle.class_parents.specs.Parents.{class_of, classes_of, listed, is_in}
 use Rattle.class_parents.proofs.Lines.{parents_at, line, lines, line-at, lines-at, line-is-known, lines-first, endless-line}
-use Rattle.class_parents.proofs.Lists.{Within, new_to, is_in-append, is_in-filter, is_in-onto, or-either, or-left, path-refl}
+use Rattle.class_parents.proofs.Lists.{new_to, is_in-append, is_in-filter, is_in-onto, or-either, or-left, path-refl}
 
 -- ---- lists of classes
 

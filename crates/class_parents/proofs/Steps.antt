@@ -1,11 +1,11 @@
 -- The steps of the walk.
-use Rattle.std.proofs.Common.{◌≡◌, ℕ, zero, suc, Bool, true, false, if◌then◌else◌, List, [], ◌∷◌, ◌++◌, reverse, None, Some, refl, sym, ap, subst, ◌∙◌}
+use Rattle.std.proofs.Common.{◌≡◌, ℕ, zero, suc, Bool, true, false, if◌then◌else◌, List, [], ◌∷◌, ◌++◌, reverse, None, Some, refl, sym, ap, ◌∙◌}
 use Rattle.std.proofs.lemmas.List.{reverse-append}
 use Rattle.std.proofs.lemmas.List.Sorted.{IsPermutation-reverse, list_any-IsPermutation}
 use Rattle.item_answers.specs.Asking.{Stops}
 use Rattle.item_answers.specs.declared.stopping.Stopped.{Stopped}
 use Rattle.item_answers.specs.declared.stopping.Stopped.TheVariants as stopped
-use Rattle.item_questions.specs.Questions.{Answer, Known, Needs, AtCyclic}
+use Rattle.item_questions.specs.Questions.{Answer, Known, Needs}
 use Rattle.item_questions.proofs.Answers.{none≢some, some-injective}
 use Rattle.pc_terms.specs.declared.items.Item.{Item}
 use Rattle.pc_terms.specs.declared.symbols.SymPath.{SymPath}

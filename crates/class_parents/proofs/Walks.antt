@@ -1,7 +1,7 @@
 -- The walk down the parents comes to the linearisation.
-use Rattle.std.proofs.Common.{◌≡◌, ℕ, zero, suc, ◌+◌, ◌≤◌, Bool, true, false, ◌||◌, if◌then◌else◌, List, [], ◌∷◌, ◌++◌, length, Option, None, Some, refl, sym, ap, subst, ◌∙◌, true≢false, ◌⊎◌, inl, inr, arith}
+use Rattle.std.proofs.Common.{◌≡◌, ℕ, zero, suc, ◌+◌, ◌≤◌, Bool, true, false, ◌||◌, List, [], ◌∷◌, ◌++◌, length, Some, refl, sym, ap, subst, ◌∙◌, true≢false, ◌⊎◌, inl, inr, arith}
 use Rattle.item_questions.specs.Questions.{Answer, Known, Needs, AtCyclic, Infos}
-use Rattle.item_questions.proofs.Answers.{none≢some, some-injective, needs≢known, cyclic≢known, cyclic≢needs, known-injective, needs-injective, cyclic-injective}
+use Rattle.item_questions.proofs.Answers.{some-injective, needs≢known, cyclic≢known, cyclic≢needs, known-injective, needs-injective, cyclic-injective}
 use Rattle.pc_terms.specs.declared.items.Item.{Item}
 use Rattle.pc_terms.specs.declared.items.ItemValue.{ItemValue}
 use Rattle.pc_terms.specs.declared.symbols.SymPath.{SymPath}
@@ -15,7 +15,7 @@ use Rattle.class_parents.specs.declared.walking.Visit.{Visit}
 use Rattle.class_parents.specs.declared.walking.Visit.TheVariants.{Enter, Leave}
 use Rattle.class_parents.proofs.Lines.{Halt, Lacks, Circles, halted, parents_at, line, lines, line-known, line-halts, line-halts-later, lines-known, lines-halts, lines-halts-later, line-at}
 use Rattle.class_parents.proofs.Steps.{enter-seen, enter-new, leave-new, left-once, no-steps, ended}
-use Rattle.class_parents.proofs.Lists.{Within, onto-within, onto-new, onto-assoc, left-within, right-within, or-either, or-right, path-refl}
+use Rattle.class_parents.proofs.Lists.{Within, onto-within, onto-new, onto-assoc, left-within, or-either, or-right}
 
 module _ (known : Infos Item ItemValue) where
   abbrev goes : ℕ → List Visit → List SymPath → WalkEnd

@@ -1,6 +1,5 @@
 -- What is so of linearisations, in words of their own.
 use Rattle.std.specs.Prelude.{◌≡◌, ⊤, false, List, [], ◌∷◌, ◌++◌, Some}
-use Rattle.item_answers.specs.Asking.{Asking}
 use Rattle.item_questions.specs.Questions.{Known, Infos, run}
 use Rattle.pc_terms.specs.declared.items.Item.{Item}
 use Rattle.pc_terms.specs.declared.items.ItemValue.{ItemValue}

@@ -1,5 +1,5 @@
 -- Linearisations (SLS 5.1.2).
-use Rattle.std.specs.Prelude.{ℕ, zero, suc, Bool, not, List, [], ◌∷◌, ◌++◌, filter}
+use Rattle.std.specs.Prelude.{ℕ, zero, suc, not, List, [], ◌∷◌, ◌++◌, filter}
 use Rattle.item_questions.specs.Questions.{Gives, bind}
 use Rattle.pc_terms.specs.declared.symbols.SymPath.{SymPath}
 use Rattle.item_answers.specs.Asking.{Asking, each}

@@ -1,5 +1,5 @@
 -- The parents of a class as they are followed.
-use Rattle.std.specs.Prelude.{ℕ, zero, suc, Bool, true, false, not, if◌then◌else◌, List, [], ◌∷◌, ◌++◌, codes, filter, Option, None, Some, is_some}
+use Rattle.std.specs.Prelude.{ℕ, zero, suc, Bool, if◌then◌else◌, List, [], ◌∷◌, ◌++◌, codes, filter, Option, None, Some, is_some}
 use Rattle.std.specs.List.{list_any, flat_map}
 use Rattle.item_questions.specs.Questions.{Gives, Ends, bind}
 use Rattle.pc_terms.specs.declared.items.Item.TheVariants as item

@@ -1,5 +1,5 @@
 -- Modifiers and annotations before a definition.
-use Rattle.std.specs.Prelude.{ℕ, Bool, true, false, if◌then◌else◌, List, [], ◌∷◌, Option, Some, None}
+use Rattle.std.specs.Prelude.{ℕ, Bool, true, false, ◌||◌, if◌then◌else◌, List, [], ◌∷◌, Option, Some, None}
 use Rattle.positioned_trees.specs.declared.details.Access.{Access}
 use Rattle.positioned_trees.specs.declared.details.Access.TheVariants as access
 use Rattle.scan_tokens.specs.declared.tokens.Newline.{Newline}
@@ -41,23 +41,38 @@ with_modifier found word.Override = record found { modifiers = record found.modi
 with_modifier found word.Lazy = record found { is_lazy = true; any = true }
 with_modifier found _ = record found { any = true }
 
+-- modifiers of classes alone (SLS 5.2)
+abbrev pub is_class_modifier : Word → Bool
+is_class_modifier word.Abstract = true
+is_class_modifier word.Sealed = true
+is_class_modifier _ = false
+
+-- modifiers of values and methods alone (SLS 5.2)
+abbrev pub is_member_modifier : Word → Bool
+is_member_modifier word.Lazy = true
+is_member_modifier word.Override = true
+is_member_modifier _ = false
+
+-- a modifier that says nothing of access, or `case`
 abbrev pub is_plain : Word → Bool
-is_plain word.Abstract = true
 is_plain word.Final = true
-is_plain word.Sealed = true
-is_plain word.Lazy = true
-is_plain word.Override = true
 is_plain word.Case = true
-is_plain _ = false
+is_plain w = is_class_modifier w || is_member_modifier w
+
+abbrev pub is_access_word : Word → Bool
+is_access_word word.Private = true
+is_access_word word.Protected = true
+is_access_word _ = false
+
+abbrev pub is_value_word : Word → Bool
+is_value_word word.Val = true
+is_value_word word.Var = true
+is_value_word _ = false
 
 abbrev pub is_definition_word : Word → Bool
-is_definition_word word.Private = true
-is_definition_word word.Protected = true
-is_definition_word word.Val = true
-is_definition_word word.Var = true
 is_definition_word word.Def = true
 is_definition_word word.Type = true
-is_definition_word w = is_plain w
+is_definition_word w = is_access_word w || (is_value_word w || is_plain w)
 
 -- a definition can begin with it
 abbrev pub begins_definition : Symbol → Bool
@@ -139,24 +154,32 @@ abbrev pub at_path : Found → Symbol → Option State
 at_path found symbol.Id = state found tail.AtAnnotation
 at_path found _ = None
 
--- what was read last is part of modifiers
-abbrev pub is_in_modifiers : Tail → Bool
-is_in_modifiers (tail.AtMods g) = true
-is_in_modifiers tail.AtAt = true
-is_in_modifiers tail.AtAnnotation = true
-is_in_modifiers tail.AtAnnotationDot = true
-is_in_modifiers (tail.InArguments bs) = true
-is_in_modifiers (tail.AtAccess a) = true
-is_in_modifiers (tail.AtAccessOpen a) = true
-is_in_modifiers (tail.AtAccessName a) = true
-is_in_modifiers _ = false
+-- a name of the path of an annotation has to follow
+abbrev pub is_in_path : Tail → Bool
+is_in_path tail.AtAt = true
+is_in_path tail.AtAnnotationDot = true
+is_in_path _ = false
+
+-- between the brackets of a modifier of access
+abbrev pub is_in_access : Tail → Bool
+is_in_access (tail.AtAccessOpen a) = true
+is_in_access (tail.AtAccessName a) = true
+is_in_access _ = false
+
+abbrev pub is_after_access : Tail → Bool
+is_after_access (tail.AtAccess a) = true
+is_after_access _ = false
 
 -- modifiers may end here, if the newline after them allows it
 abbrev pub may_end : Tail → Bool
 may_end (tail.AtMods g) = true
 may_end tail.AtAnnotation = true
-may_end (tail.AtAccess a) = true
-may_end _ = false
+may_end at = is_after_access at
+
+-- what was read last is part of modifiers
+abbrev pub is_in_modifiers : Tail → Bool
+is_in_modifiers (tail.InArguments bs) = true
+is_in_modifiers at = may_end at || (is_in_path at || is_in_access at)
 
 abbrev pub found_if : Bool → Found → Option Found
 found_if holds found = if holds then Some found else None

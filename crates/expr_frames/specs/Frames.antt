@@ -39,7 +39,7 @@ use Rattle.expr_tails.specs.declared.states.TypedOf.TheVariants as typed_of
 use Rattle.expr_tails.specs.Ending.{fresh, at_tail, is_first, may_head, is_expr, expr_at}
 use Rattle.expr_frames.specs.Generators.{nothing_yet, next_pattern, with_free, finished}
 use Rattle.expr_frames.specs.Heads.{with_head}
-use Rattle.expr_tails.specs.Tails.{operand_at, from_start, may_be_prim}
+use Rattle.expr_tails.specs.Tails.{operand_at, from_start, may_be_prim, is_prim_tail}
 use Rattle.expr_tails.specs.Types.{type_of}
 
 -- ---- opening
@@ -67,9 +67,7 @@ abbrev pub is_receiver : Tail → Bool
 is_receiver (tail.AtGroup group) = may_be_prim group
 is_receiver (tail.AtName name is_sign) = not is_sign
 is_receiver (tail.AtWild span) = true
-is_receiver (tail.AtPrim operand form) = true
-is_receiver (tail.AtCall call) = true
-is_receiver _ = false
+is_receiver at = is_prim_tail at
 
 -- Args can follow the Prim
 abbrev pub takes_args : Context → Bool

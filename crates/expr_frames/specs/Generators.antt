@@ -30,6 +30,7 @@ use Rattle.expr_tails.specs.declared.states.State.{State}
 use Rattle.expr_tails.specs.declared.symbols.Symbol.{Symbol}
 use Rattle.expr_tails.specs.declared.symbols.Symbol.TheVariants as symbol
 use Rattle.expr_tails.specs.Ending.{fresh, at_tail, chain_at, expr_at, is_expr, is_semi, waits_in}
+use Rattle.expr_tails.specs.Symbols.{is_name_or_wild}
 use Rattle.expr_frames.specs.Heads.{in_context, with_semicolon}
 
 abbrev pub nothing_yet : Part
@@ -153,11 +154,10 @@ in_generators (f ∷ fs) = is_generators f.bracket
 abbrev pub is_behind_semicolon : Context → Bool
 is_behind_semicolon c = is_semi c.tail && not (waits_in c.heads)
 
+-- a name or `_`, or what begins a tuple of patterns
 abbrev pub begins_pattern : Symbol → Bool
-begins_pattern symbol.Id = true
-begins_pattern symbol.Underscore = true
 begins_pattern symbol.OpenRound = true
-begins_pattern _ = false
+begins_pattern s = is_name_or_wild s
 
 -- the token begins the next generator
 abbrev pub begins_generator : List Frame → Context → Symbol → Newline → Bool

@@ -72,12 +72,18 @@ opened s before =
     opened_by (asks_at (before_braces s before).context.tail (before_braces s before).context before)
     (before_braces s before)
 
+abbrev pub holds_cases : Inside → Bool
+holds_cases (inside.Cases cases) = true
+holds_cases _ = false
+
+abbrev pub holds_generators : Inside → Bool
+holds_generators (inside.Generators generators) = true
+holds_generators _ = false
+
 abbrev pub answers : Asks → Inside → Bool
-answers asks.Any (inside.Block built) = true
-answers asks.Any (inside.Cases cases) = true
-answers asks.Cases (inside.Cases cases) = true
-answers asks.Generators (inside.Generators generators) = true
-answers _ _ = false
+answers asks.Any within = not (holds_generators within)
+answers asks.Cases within = holds_cases within
+answers asks.Generators within = holds_generators within
 
 -- ---- after the braces
 

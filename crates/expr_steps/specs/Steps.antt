@@ -53,7 +53,7 @@ use Rattle.expr_frames.specs.Generators.{next_generator, guarded, separated}
 use Rattle.expr_frames.specs.Heads.{with_head, is_taken, with_word, with_semicolon}
 use Rattle.expr_tails.specs.Operators.{pushed, fits}
 use Rattle.expr_tails.specs.Tails.{from_start, ident, select_hole, new_at, new_with_type, element_param}
-use Rattle.expr_tails.specs.Tails.{is_operand, is_whole, is_before_operator}
+use Rattle.expr_tails.specs.Tails.{is_name_tail, is_operand, is_whole, is_before_operator}
 use Rattle.expr_tails.specs.Symbols.{symbol_of, begins_prim, begins_expr}
 use Rattle.expr_tails.specs.Types.{is_type, is_type_and_dot, type_of, type_takes}
 
@@ -119,13 +119,17 @@ abbrev pub return_decided : Context → Span → Symbol → Newline → Context
 return_decided c span s before =
     if is_no before && begins_expr s then with_head c span.start head.Return else at_tail c (tail.AtReturn span)
 
+-- after its last `.` a name may be missing
+abbrev pub may_be_hole : Tail → Bool
+may_be_hole (tail.InNew start end ty) = true
+may_be_hole (tail.AtDot receiver point) = true
+may_be_hole _ = false
+
 -- what stands here depends on the token after it
 abbrev pub is_undecided : Tail → Bool
 is_undecided (tail.AtSign name) = true
-is_undecided (tail.InNew start end ty) = true
-is_undecided (tail.AtDot receiver point) = true
 is_undecided (tail.AtReturn span) = true
-is_undecided _ = false
+is_undecided at = may_be_hole at
 
 -- the context with the tail that it is where this token follows
 abbrev pub decided_at : Tail → Context → Symbol → Newline → Context
@@ -334,11 +338,9 @@ element_params kids [] = kids
 element_params kids (e ∷ es) = element_params (joined kids (element_param e)) es
 
 abbrev pub is_head_tail : Tail → Bool
-is_head_tail (tail.AtSign name) = true
-is_head_tail (tail.AtName name is_sign) = true
 is_head_tail (tail.AtWild span) = true
 is_head_tail (tail.AtGroup group) = group.may_be_head
-is_head_tail _ = false
+is_head_tail at = is_name_tail at
 
 -- what stands at the tail can be the head of a lambda
 abbrev pub is_lambda_head : Context → Bool

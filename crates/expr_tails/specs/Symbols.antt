@@ -96,32 +96,52 @@ symbol_of kind.Sign text = sign_symbol text
 symbol_of kind.Delimiter text = delimiter_symbol text
 symbol_of _ text = symbol.Other
 
+-- a path can begin with it (SLS 3.1)
+abbrev pub is_path_word : Word → Bool
+is_path_word word.Super = true
+is_path_word word.This = true
+is_path_word _ = false
+
 abbrev pub is_prim_word : Word → Bool
 is_prim_word word.New = true
-is_prim_word word.Super = true
-is_prim_word word.This = true
-is_prim_word _ = false
+is_prim_word w = is_path_word w
+
+abbrev pub is_loop_word : Word → Bool
+is_loop_word word.While = true
+is_loop_word word.Do = true
+is_loop_word _ = false
+
+abbrev pub is_jump_word : Word → Bool
+is_jump_word word.Throw = true
+is_jump_word word.Return = true
+is_jump_word _ = false
+
+-- `else` or `catch` may follow what it begins
+abbrev pub is_branch_word : Word → Bool
+is_branch_word word.If = true
+is_branch_word word.Try = true
+is_branch_word _ = false
 
 abbrev pub is_head_word : Word → Bool
-is_head_word word.If = true
-is_head_word word.While = true
-is_head_word word.Do = true
-is_head_word word.Try = true
 is_head_word word.For = true
-is_head_word word.Throw = true
-is_head_word word.Return = true
-is_head_word _ = false
+is_head_word w = is_branch_word w || (is_loop_word w || is_jump_word w)
+
+abbrev pub is_literal : Symbol → Bool
+is_literal symbol.Number = true
+is_literal symbol.Literal = true
+is_literal _ = false
+
+abbrev pub is_name_or_wild : Symbol → Bool
+is_name_or_wild symbol.Id = true
+is_name_or_wild symbol.Underscore = true
+is_name_or_wild _ = false
 
 -- a Prim can begin with it
 abbrev pub begins_prim : Symbol → Bool
-begins_prim symbol.Id = true
-begins_prim symbol.Number = true
-begins_prim symbol.Literal = true
-begins_prim symbol.Underscore = true
 begins_prim symbol.OpenRound = true
 begins_prim symbol.OpenCurly = true
 begins_prim (symbol.Word w) = is_prim_word w
-begins_prim _ = false
+begins_prim s = is_name_or_wild s || is_literal s
 
 -- an expression can begin with it
 abbrev pub begins_expr : Symbol → Bool

@@ -149,6 +149,16 @@ return_at span = record { tall = leaf kind.Return [] span; span = span }
 abbrev pub no_operand : Operand
 no_operand = record { tall = None; span = from_start 0 0 }
 
+abbrev pub ended_in : Tail → Operand
+ended_in (tail.AtEnded operand) = operand
+ended_in (tail.AtSemi operand is_one) = operand
+ended_in _ = no_operand
+
+-- the operand that a tail has as it is
+abbrev pub operand_in : Tail → Operand
+operand_in (tail.AtPrim operand form) = operand
+operand_in at = ended_in at
+
 -- the operand that ends at a tail, with the placeholders before it and in it
 unfoldable pub operand_at : Tail → List Span → Ready
 operand_at (tail.AtSign name) free = ready (ident name) free
@@ -156,32 +166,41 @@ operand_at (tail.AtName name is_sign) free = ready (ident name) free
 operand_at (tail.AtWild span) free = wild_at span free
 operand_at (tail.AtGroup group) free = group_at group free
 operand_at (tail.InTyped of ty) free = typed_at of ty free
-operand_at (tail.AtPrim operand form) free = ready operand free
-operand_at (tail.AtEnded operand) free = ready operand free
-operand_at (tail.AtSemi operand is_one) free = ready operand free
 operand_at (tail.AtCall call) free = ready (call_at call) free
 operand_at (tail.AtDot operand point) free = ready (select_hole operand point.end) free
 operand_at (tail.InNew start end ty) free = ready (in_new_at start end ty) free
 operand_at (tail.AtNew new) free = ready (new_at new) free
 operand_at (tail.AtReturn span) free = ready (return_at span) free
 operand_at (tail.AtCaught begun end) free = ready (caught_at begun end) free
-operand_at _ free = ready no_operand free
+operand_at at free = ready (operand_in at) free
 
 -- ---- what can follow
 
 abbrev pub may_be_prim : Group → Bool
 may_be_prim group = nat_le (length group.elements) 3
 
+abbrev pub is_name_tail : Tail → Bool
+is_name_tail (tail.AtSign name) = true
+is_name_tail (tail.AtName name is_sign) = true
+is_name_tail _ = false
+
+abbrev pub is_prim_tail : Tail → Bool
+is_prim_tail (tail.AtPrim operand form) = true
+is_prim_tail (tail.AtCall call) = true
+is_prim_tail _ = false
+
 -- an operator, `:` or `match` can follow what ends at the tail
 abbrev pub is_operand : Tail → Bool
 is_operand (tail.AtGroup group) = may_be_prim group
-is_operand (tail.AtSign name) = true
-is_operand (tail.AtName name is_sign) = true
 is_operand (tail.AtWild span) = true
-is_operand (tail.AtPrim operand form) = true
-is_operand (tail.AtCall call) = true
 is_operand (tail.AtNew new) = true
-is_operand _ = false
+is_operand at = is_name_tail at || is_prim_tail at
+
+-- nothing goes on what ends at the tail
+abbrev pub is_finished : Tail → Bool
+is_finished (tail.AtCaught begun end) = true
+is_finished (tail.AtEnded operand) = true
+is_finished _ = false
 
 -- an expression can end at the tail
 abbrev pub is_whole : Tail → Bool
@@ -189,9 +208,7 @@ is_whole (tail.InTyped of ty) = is_type ty
 is_whole (tail.InNew start end ty) = is_type ty || is_type_and_dot ty
 is_whole (tail.AtDot operand point) = true
 is_whole (tail.AtReturn span) = true
-is_whole (tail.AtCaught begun end) = true
-is_whole (tail.AtEnded operand) = true
-is_whole at = is_operand at
+is_whole at = is_operand at || is_finished at
 
 abbrev pub is_hole_form : Form → Bool
 is_hole_form form.Hole = true

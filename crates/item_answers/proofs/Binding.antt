@@ -2,7 +2,7 @@
 use Rattle.std.proofs.Common.{◌≡◌, Option, None, Some, Result, Ok, Err, IsErrAnd, MatchResult, refl, sym, ap, subst, ◌∙◌}
 use Rattle.item_questions.specs.Questions.{Info, Has, Cyclic, Asks, Gives, Ends, Ask, Answer, Known, Needs, AtCyclic, Infos, asked, run, bind}
 use Rattle.pc_terms.specs.declared.items.Item.{Item}
-use Rattle.item_answers.specs.Asking.{Asking, Stops}
+use Rattle.item_answers.specs.Asking.{Stops}
 use Rattle.item_answers.specs.declared.stopping.Stopped.{Stopped}
 use Rattle.item_answers.specs.declared.stopping.Stopped.TheVariants as stopped
 

@@ -1,5 +1,5 @@
 -- What a rule asks of the values of items, and what its answer says.
-use Rattle.std.specs.Prelude.{◌≡◌, ⊤, List, Option, Some, option_map, Result, MatchResult, ℕ, [], ◌∷◌}
+use Rattle.std.specs.Prelude.{◌≡◌, ⊤, List, Option, option_map, Result, MatchResult, ℕ, [], ◌∷◌}
 use Rattle.item_questions.specs.Questions.{Info, Has, Cyclic, Asks, Gives, Ends, Ask, Answer, Known, Needs, AtCyclic, Infos, run, bind}
 use Rattle.pc_terms.specs.Bytes.{Bytes}
 use Rattle.pc_terms.specs.declared.items.Asked.{Asked}
@@ -79,6 +79,6 @@ Stops stopped.NoMemory answer = ⊤
 Stops (stopped.Needs k) answer = answer ≡ Needs k
 Stops (stopped.Cyclic k) answer = answer ≡ AtCyclic k
 
--- what a result says of an answer: want of memory says nothing
+-- what a result says of an answer: out of memory, it says nothing
 abbrev pub Tells : {A : Type 0} → Result A Stopped → Answer Item A → Type 0
 Tells result answer = MatchResult result (λ a. answer ≡ Known a) (λ why. Stops why answer)

@@ -20,7 +20,7 @@ pub(crate) struct Client<B: Room> {
 }
 
 /// A client that has played its script. It has the answers of its accepted calls in order, or none where it came to no end
-/// for want of memory.
+/// because memory ran out.
 #[derive(Drop)]
 pub(crate) struct Played<B: Room> {
     pub(crate) pass: Pass<B>,

@@ -1,5 +1,5 @@
 -- What is completed lazily: the parents of templates, the signatures of definitions, and the qualifiers of imports.
-use Rattle.std.specs.Prelude.{ℕ, Bool, List, [], ◌∷◌, ◌++◌, slice_get, unwrap_or, map, filter}
+use Rattle.std.specs.Prelude.{ℕ, Bool, ◌||◌, if◌then◌else◌, List, [], ◌∷◌, ◌++◌, slice_get, unwrap_or, map, filter}
 use Rattle.std.specs.List.{flat_map}
 use Rattle.pc_terms.specs.Bytes.{Bytes}
 use Rattle.pc_terms.specs.declared.items.Item.{Item}
@@ -17,14 +17,14 @@ use Rattle.positioned_trees.specs.declared.trees.Tree.TheViews.{out-Tree}
 use Rattle.symbol_table.specs.Definitions.{Definition, path_to, definitions}
 use Rattle.symbol_table.specs.Owners.{are_live}
 use Rattle.symbol_table.specs.Sites.{Site, all_sites}
+use Rattle.symbol_table.specs.Symbols.{is_class_type, is_object}
 
 -- a template has parents, everything but a package a signature
 abbrev pub items_by : SymKind → SymPath → List Item
 items_by symbol.Package path = []
-items_by symbol.Class path = item.Parents path ∷ item.Signature path ∷ []
-items_by symbol.Trait path = item.Parents path ∷ item.Signature path ∷ []
-items_by symbol.Object path = item.Parents path ∷ item.Signature path ∷ []
-items_by _ path = item.Signature path ∷ []
+items_by kind path =
+    if is_class_type kind || is_object kind then item.Parents path ∷ item.Signature path ∷ []
+    else item.Signature path ∷ []
 
 abbrev pub items_of : Definition → List Item
 items_of d = items_by d.own.kind (path_to d)

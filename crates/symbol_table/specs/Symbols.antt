@@ -1,6 +1,6 @@
 -- What a tree defines, by its kind and by the kind of tree that it stands in directly: the symbol's kind, its name space and
 -- its flags.
-use Rattle.std.specs.Prelude.{Bool, true, false, not, ◌&&◌, ◌||◌}
+use Rattle.std.specs.Prelude.{Bool, true, false, not, ◌&&◌, ◌||◌, if◌then◌else◌}
 use Rattle.base_types.specs.declared.flags.Flags.{Flags}
 use Rattle.pc_terms.specs.declared.symbols.SymKind.{SymKind}
 use Rattle.pc_terms.specs.declared.symbols.SymKind.TheVariants as symbol
@@ -104,16 +104,26 @@ abbrev pub is_object : SymKind → Bool
 is_object symbol.Object = true
 is_object _ = false
 
-abbrev pub is_template : TreeKind → Bool
-is_template kind.ClassDef = true
-is_template kind.TraitDef = true
-is_template kind.ObjectDef = true
-is_template _ = false
+-- a class or a trait (SLS 5.3)
+abbrev pub is_class_type : SymKind → Bool
+is_class_type symbol.Class = true
+is_class_type symbol.Trait = true
+is_class_type _ = false
+
+-- what stands for a type: an alias or a type parameter (SLS 4.3, 4.4)
+abbrev pub is_named_type : SymKind → Bool
+is_named_type symbol.Alias = true
+is_named_type symbol.TypeParam = true
+is_named_type _ = false
 
 abbrev pub is_class_or_trait : TreeKind → Bool
 is_class_or_trait kind.ClassDef = true
 is_class_or_trait kind.TraitDef = true
 is_class_or_trait _ = false
+
+abbrev pub is_template : TreeKind → Bool
+is_template kind.ObjectDef = true
+is_template own = is_class_or_trait own
 
 -- a template directly in a class or trait
 abbrev pub stands_wrongly : TreeKind → TreeKind → Bool
@@ -124,17 +134,24 @@ stands_wrongly outer own = is_class_or_trait outer && is_template own
 -- Terms and types are named apart (SLS 2), and packages take no part in what is told of second definitions.
 abbrev pub space_of : SymKind → NameSpace
 space_of symbol.Package = space.Packages
-space_of symbol.Class = space.Types
-space_of symbol.Trait = space.Types
-space_of symbol.Alias = space.Types
-space_of symbol.TypeParam = space.Types
-space_of _ = space.Terms
+space_of kind = if is_class_type kind || is_named_type kind then space.Types else space.Terms
+
+abbrev pub is_packages : NameSpace → Bool
+is_packages space.Packages = true
+is_packages _ = false
+
+abbrev pub is_terms : NameSpace → Bool
+is_terms space.Terms = true
+is_terms _ = false
+
+abbrev pub is_types : NameSpace → Bool
+is_types space.Types = true
+is_types _ = false
 
 abbrev pub is_same_space : NameSpace → NameSpace → Bool
-is_same_space space.Packages space.Packages = true
-is_same_space space.Terms space.Terms = true
-is_same_space space.Types space.Types = true
-is_same_space _ _ = false
+is_same_space space.Packages other = is_packages other
+is_same_space space.Terms other = is_terms other
+is_same_space space.Types other = is_types other
 
 -- ---- flags
 
@@ -149,11 +166,11 @@ no_modifiers = record {
 }
 
 abbrev pub modifiers_of : Detail → Modifiers
-modifiers_of (detail.Template parts) = parts.modifiers
-modifiers_of (detail.Value parts) = parts.modifiers
-modifiers_of (detail.Method parts) = parts.modifiers
+modifiers_of (detail.Template template) = template.modifiers
+modifiers_of (detail.Value value) = value.modifiers
+modifiers_of (detail.Method method) = method.modifiers
 modifiers_of (detail.Alias modifiers) = modifiers
-modifiers_of (detail.Param parts) = parts.modifiers
+modifiers_of (detail.Param param) = param.modifiers
 modifiers_of _ = no_modifiers
 
 abbrev pub is_missing : RightSide → Bool
