@@ -116,6 +116,10 @@ chain-some : (os : List derived.Operation) (s : Option PrefixSign) (o : Option P
 chain-some os s None = refl
 chain-some os s (Some prim) = refl
 
+pub or-false : (b : Bool) → (b || false) ≡ b
+or-false true = refl
+or-false false = refl
+
 -- the innermost expression can end
 pub whole-shown : (c : derived.Context) → tails.is_whole (tail_shown c.tail) ≡ derived.is_some (derived.innermost c)
 whole-shown c = go c.tail where
@@ -124,7 +128,8 @@ whole-shown c = go c.tail where
   go (derived.InNew word t) =
       ap (λ b. b || is_type_and_dot (type_shown.shown t)) (type-whole t) ∙ ap (λ b. derived.is_some (derived.type_of t) || b) (type-dotted t)
       ∙ new-whole word (derived.dotted_of t) (derived.type_of t) ∙ chain-some c.operations c.sign (derived.dotted_prim word (derived.dotted_of t) (derived.type_of t))
-  go (derived.AtGroup o parens p h) = parens-shown o p parens ∙ chain-some c.operations c.sign (derived.parens_prim o parens p)
+  go (derived.AtGroup o parens p h) =
+      or-false (nat_le (length (parens_shown parens)) 3) ∙ parens-shown o p parens ∙ chain-some c.operations c.sign (derived.parens_prim o parens p)
   go _ = refl
 
 waits-rest : (h : derived.Head) (hs : List derived.Head) → derived.waits (h ∷ hs) ≡ false → derived.waits hs ≡ false

@@ -44,6 +44,7 @@ use Rattle.def_steps.specs.declared.states.Found.{Found}
 use Rattle.def_steps.specs.Definitions as definitions
 use Rattle.def_steps.specs.Heads as heads
 use Rattle.def_steps.specs.Modifiers.{nothing_found}
+use Rattle.expr_laws.proofs.Agreeing.{or-false}
 use Rattle.expr_laws.proofs.Beginning.{end-of}
 use Rattle.expr_laws.proofs.DefsDerived as derived
 use Rattle.expr_laws.proofs.DefsDerived.{ordered, mods_of, read_mods, def_at, value_def, method_def, alias_def, whole_expr, whole_in}
@@ -91,9 +92,6 @@ said m h ms = record m {
   access = if h then m.access else access_or m.access ms;
 }
 
-or-false : (b : Bool) → (b || false) ≡ b
-or-false true = refl
-or-false false = refl
 
 or-true : (b c : Bool) → (b || true) ≡ true
 or-true true c = refl

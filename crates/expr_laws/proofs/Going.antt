@@ -201,14 +201,14 @@ typed-there : (c : derived.Context) (s : derived.Tail) (point : Place) (prim : P
 typed-there c s point prim e one = ap (λ l. Some (spec.typed_infix l)) (chain-left c s prim e one)
 
 -- what stands before the colon is no name and no `_`
-from-chain : (c : derived.Context) (s : derived.Tail) (point : Place) (b : Bool) → spec.is_name_tail (tail_shown s) ≡ false
+from-chain : (c : derived.Context) (s : derived.Tail) (point : Place) (b : Bool) → spec.is_name_or_wild_tail (tail_shown s) ≡ false
     → derived.typed_from point b s (derived.at c s) ≡ derived.typed_chain point (derived.at c s) (derived.operand_chain (derived.at c s))
 from-chain c (derived.AtName id is_sign) point b e = cc
 from-chain c (derived.AtWild place) point b e = cc
 from-chain c _ point true e = refl
 from-chain c _ point false e = refl
 
-colon-chain : (c : derived.Context) (s : derived.Tail) (point : Place) → AreOneSide c.operations → spec.is_name_tail (tail_shown s) ≡ false
+colon-chain : (c : derived.Context) (s : derived.Tail) (point : Place) → AreOneSide c.operations → spec.is_name_or_wild_tail (tail_shown s) ≡ false
     → spec.on_colon (context_shown (derived.at c s)) ≡ option_map context_shown (derived.on_colon point (derived.at c s))
 colon-chain c s point one e =
     ap (λ b. spec.when (spec.may_be_typed now) (if is_first now && b then spec.typed_name (tail_shown s) now else chain)) e

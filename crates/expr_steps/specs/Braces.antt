@@ -72,6 +72,10 @@ opened s before =
     opened_by (asks_at (before_braces s before).context.tail (before_braces s before).context before)
     (before_braces s before)
 
+abbrev pub holds_block : Inside → Bool
+holds_block (inside.Block built) = true
+holds_block _ = false
+
 abbrev pub holds_cases : Inside → Bool
 holds_cases (inside.Cases cases) = true
 holds_cases _ = false
@@ -81,7 +85,7 @@ holds_generators (inside.Generators generators) = true
 holds_generators _ = false
 
 abbrev pub answers : Asks → Inside → Bool
-answers asks.Any within = not (holds_generators within)
+answers asks.Any within = holds_block within || holds_cases within
 answers asks.Cases within = holds_cases within
 answers asks.Generators within = holds_generators within
 

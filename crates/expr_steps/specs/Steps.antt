@@ -290,10 +290,10 @@ chain_left c = record { operand = (chain_of c).operand; context = without_chain 
 abbrev pub typed_infix : Left → Context
 typed_infix l = at_tail l.context (tail.InTyped (typed_of.Infix l.operand) type_begun)
 
-abbrev pub is_name_tail : Tail → Bool
-is_name_tail (tail.AtName name is_sign) = true
-is_name_tail (tail.AtWild span) = true
-is_name_tail _ = false
+abbrev pub is_name_or_wild_tail : Tail → Bool
+is_name_or_wild_tail (tail.AtName name is_sign) = true
+is_name_or_wild_tail (tail.AtWild span) = true
+is_name_or_wild_tail _ = false
 
 -- a name or `_` alone, which may be a parameter
 abbrev pub typed_name : Tail → Context → Context
@@ -302,7 +302,7 @@ typed_name (tail.AtWild span) c = at_tail c (tail.InTyped (typed_of.Wild span) t
 typed_name at c = at_tail c at
 
 abbrev pub typed_from : Context → Context
-typed_from c = if is_first c && is_name_tail c.tail then typed_name c.tail c else typed_infix (chain_left c)
+typed_from c = if is_first c && is_name_or_wild_tail c.tail then typed_name c.tail c else typed_infix (chain_left c)
 
 abbrev pub may_be_typed : Context → Bool
 may_be_typed c = is_operand c.tail && (is_expr_limit c.limit || is_param_limit c.limit)

@@ -120,8 +120,8 @@ fn typed_infix(alloc: Global, of: Left) -> Context
     )
 }
 
-fn is_name_tail(tail: &Tail) -> bool
-    ensures { result ≡ spec.is_name_tail tail.now }
+fn is_name_or_wild_tail(tail: &Tail) -> bool
+    ensures { result ≡ spec.is_name_or_wild_tail tail.now }
 {
     matches!(tail, Tail::AtName(..) | Tail::AtWild(_))
 }
@@ -147,7 +147,7 @@ fn typed_name(alloc: Global, context: Context) -> Context
 fn typed_from(alloc: Global, context: Context) -> Result<Context, NoMemory>
     ensures { IfOk result (λ now. now ≡ spec.typed_from context) }
 {
-    if is_first(&context) && is_name_tail(&context.tail) {
+    if is_first(&context) && is_name_or_wild_tail(&context.tail) {
         Ok(typed_name(alloc, context))
     } else {
         let of = chain_left(alloc, context)?;
