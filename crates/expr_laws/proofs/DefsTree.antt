@@ -92,7 +92,6 @@ said m h ms = record m {
   access = if h then m.access else access_or m.access ms;
 }
 
-
 or-true : (b c : Bool) → (b || true) ≡ true
 or-true true c = refl
 or-true false c = refl
