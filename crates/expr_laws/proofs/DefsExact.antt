@@ -122,12 +122,12 @@ mark-level : (m : Mark) → is_level_token (mark_token m) ≡ true
 mark-level Wild = refl
 mark-level _ = refl
 
-expr-level : (f : Filler) → IsLevelItem (expr_fillers.filler_item f)
+pub expr-level : (f : Filler) → IsLevelItem (expr_fillers.filler_item f)
 unfolding is_balanced word_role sign_role ending_words continuing_words case_words ending_signs arrows
 expr-level (One m) = mark-level m
 expr-level SomeCases = refl
 
-level-filler : (f : DefFiller) → IsLevelItem (filler_item f)
+pub level-filler : (f : DefFiller) → IsLevelItem (filler_item f)
 level-filler (Filled f) = expr-level f
 level-filler _ = refl
 
@@ -285,11 +285,11 @@ module _ (rule : Rule) where
   -- ---- alive
 
   module _ (empty : rule WithinExpr false [] []) where
-    proper-filler : (f : DefFiller) → ProperItem rule (filler_item f)
+    pub proper-filler : (f : DefFiller) → ProperItem rule (filler_item f)
     proper-filler (Filled f) = filler-proper rule empty f
     proper-filler _ = tt
 
-    abbrev others : List DefFiller → List (ReadDefItem rule)
+    abbrev pub others : List DefFiller → List (ReadDefItem rule)
     others [] = []
     others (f ∷ fs) = record { given = record { selectors = None; item = filler_item f }; proper = proper-filler f; level = level-filler f } ∷ others fs
 
@@ -298,8 +298,13 @@ module _ (rule : Rule) where
     others-items [] (f ∷ fs) = ap (λ js. filler_item f ∷ js) (others-items [] fs)
     others-items (i ∷ is) fs = ap (λ js. i.given.item ∷ js) (others-items is fs)
 
-    alive : (is : List (ReadDefItem rule)) (t : InLines ReaderState) → run (definitions_in_lines rule).step is (definitions_in_lines rule).start ≡ Some t → CanBegin (AreOfDefinition rule) is
-    alive is t r =
+    -- with these items what was read is a definition
+    pub record Completed (is : List (ReadDefItem rule)) : Type 0 where
+      pub fillers : List DefFiller
+      pub part : AreOfDefinition rule (is ++ others fillers)
+
+    pub completed-lines : (is : List (ReadDefItem rule)) (t : InLines ReaderState) → run (definitions_in_lines rule).step is (definitions_in_lines rule).start ≡ Some t → Completed is
+    completed-lines is t r =
         let back = lined-back is true spec.begun t r in
         let b = behind is t.state back.runs in
         let s = b.there in
@@ -309,13 +314,16 @@ module _ (rule : Rule) where
         ap (λ js. run step js begun) (others-items is c.others) ∙ run-append step (def_items_of rule is) (filled c.others) begun
         ∙ ap (λ o. onward o None (run step (filled c.others))) b.runs ∙ on in
         record {
-          others = others c.others;
+          fillers = c.others;
           part = of-def (is ++ others c.others) c.end c.def runs
               (run-good rule (def_items_of rule (is ++ others c.others)) begun c.end (items-proper (is ++ others c.others)) (begun-defs rule) runs)
               c.ends
               (ap (λ js. newlines_end true (items_tokens js)) (others-items is c.others) ∙ ap (newlines_end true) (items-append (def_items_of rule is) (filled c.others))
               ∙ both-ends true (items_tokens (def_items_of rule is)) (items_tokens (filled c.others)) back.newlines (filled-ends c.others _));
         }
+
+    alive : (is : List (ReadDefItem rule)) (t : InLines ReaderState) → run (definitions_in_lines rule).step is (definitions_in_lines rule).start ≡ Some t → CanBegin (AreOfDefinition rule) is
+    alive is t r = (let c = completed-lines is t r in record { others = others c.fillers; part = c.part })
 
     pub reads-definitions : ReadsExactly (AreOfDefinition rule) (definitions_in_lines rule)
     reads-definitions = record { complete = complete; sound = sound; alive = alive }

@@ -214,7 +214,7 @@ module _ (rule : Rule) where
   -- ---- alive
 
   module _ (empty : rule WithinExpr false [] []) where
-    abbrev others : List Filler → List (ReadItem rule)
+    abbrev pub others : List Filler → List (ReadItem rule)
     others [] = []
     others (f ∷ fillers) = record { given = record { selectors = None; item = filler_item f }; proper = filler-proper rule empty f } ∷ others fillers
 
@@ -223,8 +223,13 @@ module _ (rule : Rule) where
     others-items [] (f ∷ fillers) = ap (λ js. filler_item f ∷ js) (others-items [] fillers)
     others-items (i ∷ is) fillers = ap (λ js. i.given.item ∷ js) (others-items is fillers)
 
-    alive : (is : List (ReadItem rule)) (t : InLines ReaderState) → run (reader_in_lines rule).step is (reader_in_lines rule).start ≡ Some t → CanBegin (AreOfExpr rule) is
-    alive is t r =
+    -- with these items what was read is an expression
+    pub record Completed (is : List (ReadItem rule)) : Type 0 where
+      pub fillers : List Filler
+      pub part : AreOfExpr rule (is ++ others fillers)
+
+    pub completed-lines : (is : List (ReadItem rule)) (t : InLines ReaderState) → run (reader_in_lines rule).step is (reader_in_lines rule).start ≡ Some t → Completed is
+    completed-lines is t r =
         let back = lined-back is true (reader limit.Expr).start t r in
         let b = behind (givens is) t.state back.runs in
         let s = b.there in
@@ -233,7 +238,7 @@ module _ (rule : Rule) where
         let fillers : List Filler = c.reaches.fillers in
         let on : run step (fill fillers) s ≡ Some (state [] c.end) = ap (λ js. run step js s) (sym (append-nil (fill fillers))) ∙ c.reaches.leads.runs [] in
         record {
-          others = others fillers;
+          fillers = fillers;
           part = of-expr (is ++ others fillers) (state [] c.end) c.expr
               (ap (λ js. run step js (begun limit.Expr)) (others-items is fillers) ∙ run-append step (items_of (givens is)) (fill fillers) (begun limit.Expr)
               ∙ ap (λ o. onward o None (run step (fill fillers))) b.runs ∙ on)
@@ -241,6 +246,9 @@ module _ (rule : Rule) where
               (ap (λ js. newlines_end true (items_tokens js)) (others-items is fillers) ∙ ap (newlines_end true) (items-append (items_of (givens is)) (fill fillers))
               ∙ both-ends true (items_tokens (items_of (givens is))) (items_tokens (fill fillers)) back.newlines (fill-ends fillers _));
         }
+
+    alive : (is : List (ReadItem rule)) (t : InLines ReaderState) → run (reader_in_lines rule).step is (reader_in_lines rule).start ≡ Some t → CanBegin (AreOfExpr rule) is
+    alive is t r = (let c = completed-lines is t r in record { others = others c.fillers; part = c.part })
 
     pub reads-items : ReadsExactly (AreOfExpr rule) (reader_in_lines rule)
     reads-items = record { complete = complete; sound = sound; alive = alive }

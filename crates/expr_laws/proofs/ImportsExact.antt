@@ -1,5 +1,5 @@
 -- The readers of imports and of selectors read exactly these, and have their trees.
-use Rattle.std.proofs.Common.{◌≡◌, ℕ, true, List, [], ◌∷◌, ◌++◌, Option, Some, None, option_map, refl, ap, sym, ◌∙◌, append_assoc, append-nil, subst}
+use Rattle.std.proofs.Common.{◌≡◌, ℕ, Bool, true, List, [], ◌∷◌, ◌++◌, Option, Some, None, option_map, refl, ap, sym, ◌∙◌, append_assoc, append-nil, subst}
 use Rattle.std.specs.Prelude.{is_some}
 use Rattle.reading_machines.specs.Machines.{run, onward}
 use Rattle.reading_machines.specs.Parts.{CanBegin}
@@ -14,7 +14,10 @@ use Rattle.expr_tails.specs.declared.items.Inside.TheVariants as inside
 use Rattle.import_steps.specs.declared.imports.Import.{Import as ReaderState}
 use Rattle.import_steps.specs.declared.imports.Selectors.{Selectors as ReaderSelectors}
 use Rattle.import_steps.specs.Imports as spec
+use Rattle.expr_laws.specs.Definitions.{is_level_token}
 use Rattle.expr_laws.specs.Imports.{SelList, sel_list_tokens, selectors_of, AreSelectors, selectors_reader, ImportItem, ImportToken, Selectors, NoSelectors, import_tokens_of, import_items, ProperImportItem, ReadImportItem, import_items_of, import_picture, AreOfImport, import_stepped, import_reader}
+use Rattle.expr_laws.specs.Newlines.{newlines_end}
+use Rattle.expr_laws.proofs.Fillers.{Name, Point, One, fill-ends}
 use Rattle.expr_laws.proofs.ImportsAlong.{selectors-along, import-along}
 use Rattle.expr_laws.proofs.ImportsDerived.{DoneSel, SelTail, SelBegin, AtSelName, AtSelArrow, AtSel, Sels, sels_at, sel_at, sels_by, sels_step, sels_before, sels_tokens, DoneClause, ImportTail, ClauseBegin, AtImportPath, AtImportDot, AtClause, ImportState, import_at, path_of, clause_at, step_of, import_parted, in_import, import_moved, import_by, selected, import_step, clauses_before, import_items_in}
 use Rattle.expr_laws.proofs.ImportsShown.{sels_shown, sels-same, sels-whole, sels-shown, import_shown, import-whole, import-same, import-shown, word-there}
@@ -316,9 +319,16 @@ import-complete word is a =
     (let r = import-read word is a in
     (import_shown word.span.start r.end, import-ended word.span.start is a.derivation r, import-whole word.span.start r.end ∙ ap is_some r.ends))
 
+-- each is a token of a level
+abbrev pub AllLevel : List Lexeme → Type 0
+AllLevel [] = Unit {0}
+AllLevel (x ∷ xs) = (is_level_token x ≡ true) × AllLevel xs
+
 -- some tokens end what is read
 record ImportEnded (s : ImportState) : Type 0 where
   others : List Lexeme
+  level : AllLevel others
+  lines : (ended : Bool) → newlines_end ended others ≡ true
   end : ImportState
   last : ImpExpr
   leads : LeadsBy import_step (import_tokens_of others) s end
@@ -342,6 +352,8 @@ to-dot clauses first done =
 import-end : (clauses : List DoneClause) (s : ImportTail) → ImportEnded (import_at clauses s)
 import-end clauses ClauseBegin = record {
   others = a_name ∷ a_dot ∷ a_name ∷ [];
+  level = (refl, (refl, (refl, tt)));
+  lines = fill-ends (One Name ∷ One Point ∷ One Name ∷ []);
   end = at_path clauses an_id [] any_place;
   last = ImportName (path_of an_id []) any_place an_id;
   leads = by-on import_step (ImportToken a_name) _ _ (import_at clauses (AtImportPath an_id [])) _ (ap (import_by (import_at clauses ClauseBegin)) (seen-id an_id)) (to-dot clauses an_id []);
@@ -349,6 +361,8 @@ import-end clauses ClauseBegin = record {
 }
 import-end clauses (AtImportPath first []) = record {
   others = a_dot ∷ a_name ∷ [];
+  level = (refl, (refl, tt));
+  lines = fill-ends (One Point ∷ One Name ∷ []);
   end = at_path clauses first [] any_place;
   last = ImportName (path_of first []) any_place an_id;
   leads = to-dot clauses first [];
@@ -356,6 +370,8 @@ import-end clauses (AtImportPath first []) = record {
 }
 import-end clauses (AtImportPath first (s ∷ done)) = record {
   others = [];
+  level = tt;
+  lines = fill-ends [];
   end = import_at clauses (AtImportPath first (s ∷ done));
   last = ImportName (path_of first done) s.point s.id;
   leads = by-none import_step _;
@@ -363,14 +379,16 @@ import-end clauses (AtImportPath first (s ∷ done)) = record {
 }
 import-end clauses (AtImportDot first done p) = record {
   others = a_name ∷ [];
+  level = (refl, tt);
+  lines = fill-ends (One Name ∷ []);
   end = at_path clauses first done p;
   last = ImportName (path_of first done) p an_id;
   leads = to-name clauses first done p;
   ends = refl;
 }
-import-end clauses (AtClause c) = record { others = []; end = import_at clauses (AtClause c); last = c; leads = by-none import_step _; ends = refl }
+import-end clauses (AtClause c) = record { others = []; level = tt; lines = fill-ends []; end = import_at clauses (AtClause c); last = c; leads = by-none import_step _; ends = refl }
 
-abbrev given : List Lexeme → List ReadImportItem
+abbrev pub given : List Lexeme → List ReadImportItem
 given [] = []
 given (x ∷ xs) = record { inside = inside.Nothing; item = ImportToken x; proper = tt } ∷ given xs
 
@@ -379,16 +397,28 @@ given-items [] [] = refl
 given-items [] (x ∷ xs) = ap (λ js. ImportToken x ∷ js) (given-items [] xs)
 given-items (i ∷ is) xs = ap (λ js. i.item ∷ js) (given-items is xs)
 
-import-alive : (word : Place) (is : List ReadImportItem) (u : ReaderState) → run (import_reader word).step is (import_reader word).start ≡ Some u → CanBegin (AreOfImport word) is
-import-alive word is u e =
+-- with these tokens what was read is an import
+pub record CompletedImport (word : Place) (is : List ReadImportItem) : Type 0 where
+  pub others : List Lexeme
+  pub level : AllLevel others
+  pub lines : (ended : Bool) → newlines_end ended others ≡ true
+  pub part : AreOfImport word (is ++ given others)
+
+pub completed-import : (word : Place) (is : List ReadImportItem) (u : ReaderState) → run (import_reader word).step is (import_reader word).start ≡ Some u → CompletedImport word is
+completed-import word is u e =
     let b = behind-import word.span.start is u e in
     let on = import-end b.there.done b.there.tail in
     let more : run import_step (import_tokens_of on.others) b.there ≡ Some on.end = ap (λ js. run import_step js b.there) (sym (append-nil (import_tokens_of on.others))) ∙ on.leads.runs [] in
     record {
-      others = given on.others;
+      others = on.others;
+      level = on.level;
+      lines = on.lines;
       part = are-import word (is ++ given on.others) on.end on.last
           (ap (λ js. run import_step js begun_import) (given-items is on.others) ∙ onward-to import_step (import_items_of is) (import_tokens_of on.others) begun_import b.there on.end b.runs more) on.ends;
     }
+
+import-alive : (word : Place) (is : List ReadImportItem) (u : ReaderState) → run (import_reader word).step is (import_reader word).start ≡ Some u → CanBegin (AreOfImport word) is
+import-alive word is u e = (let c = completed-import word is u e in record { others = given c.others; part = c.part })
 
 pub reads-import : (word : Place) → ReadsExactly (AreOfImport word) (import_reader word)
 reads-import word = record { complete = import-complete word; sound = import-sound word; alive = import-alive word }

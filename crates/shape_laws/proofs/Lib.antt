@@ -1,0 +1,9 @@
+pub mod Alike
+pub mod Asked
+pub mod Bare
+pub mod Contexts
+pub mod DefSteps
+pub mod ExprSteps
+pub mod Frames
+pub mod ImportSteps
+pub mod Statements

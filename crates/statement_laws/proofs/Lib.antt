@@ -1,0 +1,9 @@
+pub mod Came
+pub mod Exact
+pub mod Fillers
+pub mod FirstItem
+pub mod Guarded
+pub mod ImportItems
+pub mod Lines
+pub mod Longest
+pub mod StatementTokens
