@@ -5,21 +5,24 @@ ghost use Rattle.pc_terms.specs.Bytes.{max_source_bytes};
 ghost use Rattle.positioned_trees.specs.Located.{IsPlaced, located};
 ghost use Rattle.scan_tokens.specs.Scanned.{scanned};
 ghost use Rattle.source_grammar.specs.Lexemes.{lexemes};
-ghost use Rattle.parse_parts.specs.Parting.{IsPartAt};
-ghost use Rattle.layer_bench.specs.Counts.{IsCount, IsEnd, production};
+ghost use Rattle.tree_parser.specs.Read.{unit_of};
+ghost use Rattle.layer_bench.specs.Counts.{IsCount, IsEnd, IsPartBy, kid_count};
 
+use parse_exprs::parse_expr;
 use parse_parts::{Part, parse_type};
 use parse_patterns::parse_pattern;
 use pc_terms::{NoMemory, Row};
 use positioned_trees::{SourceUnit, is_placed, locate};
 use scan_tokens::{Tokens, scan};
 use std::alloc::Global;
+use tree_parser::parse_unit;
 
 /// What reads a part of a source.
 #[derive(Clone, Copy, Debug)]
 pub enum Reader {
     Types,
     Patterns,
+    Exprs,
 }
 
 #[derive(Clone, Copy, Debug)]
@@ -28,6 +31,8 @@ pub enum Layer {
     Scan,
     /// A reader of parts, at the first token.
     Parts(Reader),
+    /// The whole parser.
+    Units,
     /// The tree at the middle of a text that is one type.
     Locate,
 }
@@ -57,18 +62,19 @@ fn tokens_of(alloc: Global, text: &str) -> Result<Tokens, NoMemory>
 fn part_once(alloc: Global, reader: Reader, tokens: &Tokens) -> Result<Part, NoMemory>
     requires short { length tokens.now.text ≤ max_source_bytes }
     requires scanned { tokens.now ≡ scanned tokens.now.text }
-    ensures { IfOk result (IsPartAt (production reader) (lexemes tokens.now) 0) }
+    ensures { IfOk result (IsPartBy reader (lexemes tokens.now)) }
 {
     match reader {
         Reader::Types => parse_type(alloc, tokens, 0),
         Reader::Patterns => parse_pattern(alloc, tokens, 0),
+        Reader::Exprs => parse_expr(alloc, tokens, 0),
     }
 }
 
 fn end_once(alloc: Global, reader: Reader, tokens: &Tokens) -> Result<u32, NoMemory>
     requires short { length tokens.now.text ≤ max_source_bytes }
     requires scanned { tokens.now ≡ scanned tokens.now.text }
-    ensures { IfOk result (IsEnd (production reader) (lexemes tokens.now)) }
+    ensures { IfOk result (IsEnd reader (lexemes tokens.now)) }
 {
     match part_once(alloc, reader, tokens)? {
         Part::Read(_, end) | Part::NotHere(end) | Part::TooHigh(end) => Ok(end),
@@ -78,7 +84,7 @@ fn end_once(alloc: Global, reader: Reader, tokens: &Tokens) -> Result<u32, NoMem
 // The number of the token at which the part ends, or that no part admits.
 fn part_end(alloc: Global, reader: Reader, text: &str, times: u32) -> Result<usize, NoMemory>
     requires { length text.now ≤ max_source_bytes }
-    ensures { IfOk result (IsEnd (production reader) (lexemes (scanned text.now))) }
+    ensures { IfOk result (IsEnd reader (lexemes (scanned text.now))) }
 {
     let tokens = tokens_of(alloc, text)?;
     let mut end = end_once(alloc, reader, &tokens)?;
@@ -86,6 +92,26 @@ fn part_end(alloc: Global, reader: Reader, text: &str, times: u32) -> Result<usi
         end = end_once(alloc, reader, &tokens)?;
     }
     Ok(end as usize)
+}
+
+fn kids_once(alloc: Global, text: &str) -> Result<usize, NoMemory>
+    requires { length text.now ≤ max_source_bytes }
+    ensures { IfOk result (λ count. count ≡ kid_count (unit_of text.now)) }
+{
+    let unit = parse_unit(alloc, text)?;
+    Ok(unit.root.kids.len())
+}
+
+// How many trees stand right below the root of a text's unit.
+fn root_kids(alloc: Global, text: &str, times: u32) -> Result<usize, NoMemory>
+    requires { length text.now ≤ max_source_bytes }
+    ensures { IfOk result (λ count. count ≡ kid_count (unit_of text.now)) }
+{
+    let mut count = kids_once(alloc, text)?;
+    for _ in 1..times {
+        count = kids_once(alloc, text)?;
+    }
+    Ok(count)
 }
 
 fn located_in(unit: &SourceUnit, offset: u32, times: u32) -> Option<u32>
@@ -131,6 +157,7 @@ pub fn count_of(
     match layer {
         Layer::Scan => Ok(Some(token_count(alloc, text, times)?)),
         Layer::Parts(reader) => Ok(Some(part_end(alloc, reader, text, times)?)),
+        Layer::Units => Ok(Some(root_kids(alloc, text, times)?)),
         Layer::Locate => middle_tree(alloc, text, times),
     }
 }

@@ -6,7 +6,7 @@ use thiserror::Error;
 pub enum Refused {
     #[error("the words are LAYER NAME TIMES, as `types FILE 5`")]
     Usage,
-    #[error("the layer is `scan`, `types`, `patterns` or `locate`")]
+    #[error("the layer is `scan`, `types`, `patterns`, `exprs`, `units` or `locate`")]
     UnknownLayer,
     #[error("TIMES is a number from 1 to 4294967295")]
     BadTimes,

@@ -23,6 +23,8 @@ fn layer_of(word: &str) -> Option<Layer>
         "scan" => Some(Layer::Scan),
         "types" => Some(Layer::Parts(Reader::Types)),
         "patterns" => Some(Layer::Parts(Reader::Patterns)),
+        "exprs" => Some(Layer::Parts(Reader::Exprs)),
+        "units" => Some(Layer::Units),
         "locate" => Some(Layer::Locate),
         _ => None,
     }

@@ -1,0 +1,2 @@
+package b
+object C { val = 3; val c = -"a\n" }

@@ -1,0 +1,5 @@
+pub mod ClassParams
+pub mod Heads
+pub mod Pieces
+pub mod Statements
+pub mod Templates

@@ -1,0 +1,17 @@
+pub mod Behind
+pub mod Building
+pub mod Clauses
+pub mod Closing
+pub mod Dividing
+pub mod Ends
+pub mod Leading
+pub mod Loops
+pub mod Openings
+pub mod Orders
+pub mod PlainBraces
+pub mod PlainReading
+pub mod ProblemLemmas
+pub mod RangeLemmas
+pub mod Roles
+pub mod Roots
+pub mod Stepping

@@ -1,0 +1,10 @@
+pub mod Blocks
+pub mod Bracketed
+pub mod Headings
+pub mod Levels
+pub mod Messages
+pub mod Packaged
+pub mod Plain
+pub mod Problems
+pub mod Ranges
+pub mod Read
