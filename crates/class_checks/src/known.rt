@@ -2,7 +2,9 @@
 
 use crate::words::{Word, symbol, type_of, type_param};
 use indexmap::IndexMap;
-use pc_terms::{Infos, Item, ItemValue, NoMemory, Row, Sig, SymKind, TParam, Ty, show_path};
+use pc_terms::{
+    Infos, Item, ItemValue, NoMemory, Row, Sig, SymKind, SymPath, TParam, Ty, show_path,
+};
 use std::alloc::Global;
 
 /// A class, trait or object, its type parameters, and its parents.
@@ -105,6 +107,14 @@ impl Known {
         let item = Item::Signature(type_param(alloc, bound.class, bound.name)?);
         let value = bound_signature(alloc, bound)?;
         let _old = self.values.insert(item, value)?;
+        Ok(())
+    }
+
+    /// Adds the signature of a definition without type parameters.
+    pub fn add_type(&mut self, alloc: Global, path: SymPath, ty: Ty) -> Result<(), NoMemory> {
+        let tparams = Row::new(alloc);
+        let value = ItemValue::Signature(Sig { tparams, ty });
+        let _old = self.values.insert(Item::Signature(path), value)?;
         Ok(())
     }
 

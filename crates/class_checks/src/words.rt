@@ -1,6 +1,7 @@
 //! Types as lists of words. Each word that takes types stands before them, so a list is read from its end, with a stack.
 
-use pc_terms::{NoMemory, Row, SymKind, SymPath, SymStep, Text, Ty};
+use pc_terms::{Formal, NoMemory, Row, SymKind, SymPath, SymStep, Text, Ty};
+use sqlite_items::Boxed;
 use std::alloc::Global;
 
 /// A word of a type.
@@ -12,10 +13,14 @@ pub(crate) enum Word {
     Param(&'static str, &'static str),
     /// The type of the object of this name.
     Module(&'static str),
+    /// The package of this name.
+    Package(&'static str),
+    /// A method of so many parameters, whose types stand before that of its result.
+    Method(usize),
     Error,
 }
 
-fn push(
+pub(crate) fn push(
     alloc: Global,
     steps: &mut Row<SymStep>,
     kind: SymKind,
@@ -62,11 +67,26 @@ fn class(alloc: Global, stack: &mut Vec<Ty>, name: &str, count: usize) -> Result
     Ok(Ty::Class(class, args))
 }
 
+fn method(alloc: Global, stack: &mut Vec<Ty>, count: usize) -> Result<Ty, NoMemory> {
+    let mut formals = Row::new(alloc);
+    for _ in 0..count {
+        let name = Text::new(alloc, "x")?;
+        formals.push(Formal {
+            name,
+            ty: next(stack),
+            repeated: false,
+        })?;
+    }
+    Ok(Ty::Method(formals, Boxed::new(alloc, next(stack))?))
+}
+
 fn read(alloc: Global, stack: &mut Vec<Ty>, word: Word) -> Result<Ty, NoMemory> {
     match word {
         Word::Class(name, count) => class(alloc, stack, name, count),
         Word::Param(class, name) => Ok(Ty::Param(type_param(alloc, class, name)?)),
         Word::Module(name) => Ok(Ty::Module(symbol(alloc, SymKind::Object, name)?)),
+        Word::Package(name) => Ok(Ty::Package(symbol(alloc, SymKind::Package, name)?)),
+        Word::Method(count) => method(alloc, stack, count),
         Word::Error => Ok(Ty::Error),
     }
 }

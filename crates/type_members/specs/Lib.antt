@@ -1,0 +1,4 @@
+pub mod Members
+pub mod Named
+pub mod Spaces
+pub mod Types
