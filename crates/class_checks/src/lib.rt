@@ -4,6 +4,8 @@
 #[cfg(test)]
 mod bases;
 #[cfg(test)]
+mod cases;
+#[cfg(test)]
 mod definitions;
 #[cfg(test)]
 mod known;
