@@ -1,0 +1,9 @@
+pub mod AnyDivision
+pub mod Blocks
+pub mod Building
+pub mod Dividing
+pub mod Given
+pub mod Joining
+pub mod Longer
+pub mod Pieces
+pub mod Proved
