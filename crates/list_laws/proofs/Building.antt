@@ -1,5 +1,5 @@
 -- What the reader builds of the pieces of a list, one after another, and where they stand.
-use Rattle.std.proofs.Common.{◌≡◌, ◌<◌, ℕ, ◌+◌, Bool, true, false, List, [], ◌∷◌, ◌++◌, map, length, Option, Some, None, refl, ap, sym, ◌∙◌, arith, append-nil, append_assoc, length-append}
+use Rattle.std.proofs.Common.{◌≡◌, ◌<◌, ℕ, ◌+◌, List, [], ◌∷◌, ◌++◌, map, length, Option, Some, refl, ap, sym, ◌∙◌, arith, append-nil, append_assoc, length-append}
 use Rattle.std.proofs.lemmas.List.{map-append}
 use Rattle.pc_terms.specs.declared.problems.Span.{Span}
 use Rattle.positioned_trees.specs.declared.details.Selector.{Selector}
@@ -20,7 +20,7 @@ use Rattle.expr_steps.specs.Reading.{Item as Picture}
 use Rattle.parse_exprs.specs.declared.lists.BuiltList.{BuiltList}
 use Rattle.parse_exprs.specs.declared.lists.Cut.{Cut}
 use Rattle.parse_exprs.specs.Items.{span_at}
-use Rattle.parse_exprs.specs.Lists.{Elements, Piece, cut_span, end_of, span_over, over_all, of_items, items_span, pieces_by, built_pieces, built_piece}
+use Rattle.parse_exprs.specs.Lists.{Elements, Piece, cut_span, end_of, span_over, of_items, items_span, pieces_by, built_pieces, built_piece}
 use Rattle.parse_exprs.specs.Statements.{statements, built_until}
 use Rattle.expr_laws.specs.Items.{Item, OneToken, BlockPair, CasesPair, EnumsPair, OtherPair, item_tokens, items_tokens}
 use Rattle.expr_laws.specs.Pictures.{item_shown, built_shown}
@@ -99,7 +99,7 @@ built_of p = built_piece of_items statements built_until p
 abbrev pub list_of : List Tree → List Place → Option Span → BuiltList
 list_of trees places span = record { kids = kept_all trees; free = places_shown places; span = span }
 
--- behind what has been built so far
+-- after what has been built so far
 pub all-built : (span : Option Span) (trees : List Tree) (places : List Place) (ps : List (Piece Picture)) (bs : List grammar.Built) → map built_of ps ≡ map built_shown bs
     → built_pieces of_items statements built_until span (kept_all trees) (places_shown places) ps ≡ list_of (trees ++ trees_of bs) (places ++ free_of bs) span
 all-built span trees places [] [] e = ap (λ ts. list_of ts places span) (sym (append-nil trees)) ∙ ap (λ fs. list_of (trees ++ []) fs span) (sym (append-nil places))

@@ -6,9 +6,9 @@ use Rattle.reading_machines.specs.Machines.{Machine}
 use Rattle.reading_machines.specs.Parts.{IsBest, IsLongest, HasNone}
 use Rattle.expr_tails.specs.declared.items.Built.{Built}
 use Rattle.parse_exprs.specs.declared.lists.Cut.{Cut}
-use Rattle.parse_exprs.specs.Items.{is_semicolon, depth_behind}
-use Rattle.parse_exprs.specs.Lists.{Elements, Piece, before_separator, broken_length, items_span, cut_of, pieces_by, longest, cut_at, cuts_behind, pieces}
-use Rattle.list_laws.specs.Divided.{Part, at_semicolon, may_follow, up_to_separator, Divided, NoMore, Semicolon, Statement, Broken, parts, piece_shown}
+use Rattle.parse_exprs.specs.Items.{depth_behind}
+use Rattle.parse_exprs.specs.Lists.{Elements, Piece, before_separator, items_span, cut_of, pieces_by, longest, cuts_behind}
+use Rattle.list_laws.specs.Divided.{at_semicolon, may_follow, up_to_separator, Divided, NoMore, Semicolon, Statement, Broken, parts, piece_shown}
 
 module _ {I J S : Type 0} (e : Elements I) (picture : J → I) (Is : List J → Type 0) (statements : Machine S I) (built : S → ℕ → Built) where
   abbrev pub noted_at : List J → Option ℕ
@@ -62,7 +62,7 @@ module _ {I J S : Type 0} (e : Elements I) (picture : J → I) (Is : List J → 
     abbrev cut_over : ℕ → ℕ → Bool → List I → Cut
     cut_over skip count broken is = record { skip = skip; count = count; broken = broken; span = items_span e (take count is) }
 
-    -- a cut behind as many `;` as stand in front
+    -- a cut after as many `;` as stand in front
     cut-on : (front : List I) (j : J) (js : List J) (m : ℕ) (broken : Bool)
         → pieces_by e (cut_over (length front) (suc m) broken (map picture (j ∷ js)) ∷ cuts m 0 (map picture js)) (front ++ map picture (j ∷ js))
         ≡ piece (take (suc m) (j ∷ js)) broken ∷ pieces_by e (cuts 0 0 (map picture (drop m js))) (map picture (drop m js))

@@ -1,5 +1,5 @@
 -- A list of the grammar is divided as the items are.
-use Rattle.std.proofs.Common.{◌≡◌, ◌≤◌, ℕ, Bool, true, false, ◌&&◌, ◌||◌, not, if◌then◌else◌, List, [], ◌∷◌, ◌++◌, map, length, take, drop, Option, Some, None, refl, ap, sym, ◌∙◌, subst, arith, append-nil, append_assoc, length-append}
+use Rattle.std.proofs.Common.{◌≡◌, ◌≤◌, ℕ, Bool, true, false, ◌||◌, not, if◌then◌else◌, List, [], ◌∷◌, ◌++◌, map, length, drop, Option, Some, None, refl, ap, sym, ◌∙◌, subst, arith, append-nil, append_assoc, length-append}
 use Rattle.std.proofs.Math.Seq.{drop-append_seam}
 use Rattle.std.proofs.lemmas.List.{map-append}
 use Rattle.pc_terms.specs.declared.problems.Span.{Span}
@@ -8,10 +8,9 @@ use Rattle.positioned_trees.specs.Trees.{max_number}
 use Rattle.reading_machines.specs.Machines.{run, onward}
 use Rattle.reading_machines.specs.Parts.{IsLongest}
 use Rattle.scan_tokens.specs.declared.tokens.TokenKind.TheVariants as kind
-use Rattle.source_grammar.specs.Brackets as grammar
 use Rattle.source_grammar.specs.Brackets.{has_newline, is_piece}
 use Rattle.source_grammar.specs.Expressions.{WithinExpr, Sep, BStats}
-use Rattle.source_grammar.specs.ExpressionRules.{Rule, ProperBStat, ProperBStats, is_broken, is_nonempty, is_separated}
+use Rattle.source_grammar.specs.ExpressionRules.{ProperBStat, ProperBStats, is_broken, is_nonempty, is_separated}
 use Rattle.source_grammar.specs.ExpressionTokens.{sep_tokens, bstat_tokens, bstats_tokens}
 use Rattle.source_grammar.specs.ExpressionTrees.{bstat_built, bstats_built, bstats_spans, broken_tree, nonempty_span}
 use Rattle.source_grammar.specs.Placeholders.{Built, plain, trees_of, free_of}
@@ -30,7 +29,6 @@ use Rattle.expr_tails.specs.declared.symbols.Symbol.TheVariants as symbol
 use Rattle.expr_tails.specs.Symbols.{symbol_of}
 use Rattle.expr_steps.specs.Reading.{Item as Picture, begun as expr_begun}
 use Rattle.expr_steps.specs.Steps.{step as expr_step, on_token}
-use Rattle.parse_exprs.specs.declared.statements.Statement.{Statement}
 use Rattle.parse_exprs.specs.declared.statements.Statement.TheVariants as statement
 use Rattle.parse_exprs.specs.Items.{is_semicolon, separates, symbol_at}
 use Rattle.parse_exprs.specs.Lists.{of_items, items_span, span_over, whole_span, divided, pieces, built_from}
@@ -45,7 +43,7 @@ use Rattle.expr_laws.proofs.Lasting.{and-left, and-right}
 use Rattle.expr_laws.proofs.NewlinesApart.{front-ends, behind-ends, any-ends}
 use Rattle.statement_laws.specs.Statements.{ReadStatement, OfImport, OfDefinition, OfExpr, statement_of, AreItemsOf, AreOfStatement, ReadStatementItem, behind, dots_told, is_dot, statement_items, statement_pictures, statements_in_lines}
 use Rattle.statement_laws.proofs.StatementTokens.{statement-tokens}
-use Rattle.list_laws.specs.Divided.{Part, at_semicolon, may_follow, up_to_separator}
+use Rattle.list_laws.specs.Divided.{Part, at_semicolon, may_follow}
 use Rattle.list_laws.specs.Lists.{ReadStat, Whole, Empty, NoStatement, ReadStats, LastStat, MoreStats, bstat_of, bstats_of, AreItemsOfStat, AreItemsOfStats, stat_parts, written_parts, picture_of, DividedList, AreOfList, list_shown, parts_of, items_of_part, piece_of}
 use Rattle.list_laws.proofs.Blocks.{Laws, some, any-dots, one-list, pieces-list}
 use Rattle.list_laws.proofs.Building.{all-built, built_of, cuts-spans, items-span, list_of, over-shown, span-there}

@@ -1,5 +1,5 @@
 -- Where a piece of the grammar ends, outside brackets, the next separator of the items stands.
-use Rattle.std.proofs.Common.{◌≡◌, ◌<◌, ℕ, zero, suc, ◌+◌, ◌-◌, ◌==◌, Bool, true, false, ◌&&◌, ◌||◌, if◌then◌else◌, List, [], ◌∷◌, ◌++◌, map, length, Option, Some, None, codes, refl, ap, sym, ◌∙◌, subst, arith}
+use Rattle.std.proofs.Common.{◌≡◌, ◌<◌, ℕ, suc, ◌+◌, ◌-◌, ◌==◌, Bool, true, false, ◌&&◌, ◌||◌, if◌then◌else◌, List, [], ◌∷◌, ◌++◌, map, length, Option, Some, None, codes, refl, ap, sym, ◌∙◌, subst, arith}
 use Rattle.std.specs.Prelude.{not}
 use Rattle.std.specs.List.{list_any}
 use Rattle.std.specs.Str.{bytes_eq}
@@ -33,7 +33,7 @@ use Rattle.list_laws.specs.Divided.{may_follow, up_to_separator}
 use Rattle.list_laws.specs.Lists.{picture_of}
 use Rattle.list_laws.proofs.Longer.{semicolon-by, first-separates, some-tokens}
 
--- ---- how deep brackets stand behind one token
+-- ---- how deep brackets stand after one token
 
 abbrev Keeps : Symbol → Type 0
 Keeps s = (n : ℕ) → depth_behind n s ≡ n
@@ -109,7 +109,7 @@ token-depth x l opened = go x.kind x.word x.place l where
   go kind.Word w p e = ap length ((level-word w p [] level-none).after opened) ∙ sym (word-keeps w (length opened))
   go _ w p e = refl
 
--- ---- behind one item
+-- ---- after one item
 
 pair-depth : (o k : Place) (xs : List Lexeme) (opened : List Opened) → is_balanced xs ≡ true → length (after_all opened (open_curly o ∷ (xs ++ close_curly k ∷ []))) ≡ length opened
 pair-depth o k xs opened b = ap length ((level-curly o k xs [] (level-balanced xs b) level-none).after opened)

@@ -1,5 +1,5 @@
 -- What the laws of one statement and of shapes say of the list of a block.
-use Rattle.std.proofs.Common.{◌≡◌, List, [], ◌∷◌, Option, Some, None, refl, sym, ◌∙◌}
+use Rattle.std.proofs.Common.{◌≡◌, List, [], ◌∷◌, Option, Some, None, refl, ◌∙◌}
 use Rattle.reading_machines.specs.Machines.{run, onward}
 use Rattle.source_grammar.specs.Statements.{longest}
 use Rattle.parse_exprs.specs.Items.{shape_of}

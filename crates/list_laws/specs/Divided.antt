@@ -23,7 +23,7 @@ module _ {I J : Type 0} (e : Elements I) (picture : J → I) (Is : List J → Ty
   up_to_separator js = broken_length e (map picture js)
 
   -- A list is none, or begins with a `;`, or with a statement, which is its longest beginning that is one and has a separator or the end of
-  -- the list behind it, or, where no beginning is, with the items up to the next separator outside brackets.
+  -- the list after it, or, where no beginning is, with the items up to the next separator outside brackets.
   pub data Divided : List J → Type 0 where
     NoMore : Divided []
     Semicolon : (j : J) (js : List J) → at_semicolon j ≡ true → Divided js → Divided (j ∷ js)

@@ -1,5 +1,5 @@
 -- The list of a block: its items, divided into statements, and which items are a list as the grammar has it.
-use Rattle.std.specs.Prelude.{◌≡◌, Bool, true, false, List, [], ◌∷◌, ◌++◌, Option, Some, None}
+use Rattle.std.specs.Prelude.{◌≡◌, true, false, List, [], ◌∷◌, ◌++◌, Option, Some, None}
 use Rattle.pc_terms.specs.declared.problems.Span.{Span}
 use Rattle.source_grammar.specs.Expressions.{WithinExpr, Sep, BStat, EmptyBStat, BrokenBStat, BStats, LastBStat, MoreBStats}
 use Rattle.source_grammar.specs.ExpressionRules.{Rule, ProperBStats}
@@ -85,7 +85,7 @@ module _ (rule : Rule) where
   abbrev pub DividedList : List (ReadStatementItem rule) → Type 0
   DividedList is = Divided of_items picture_of (AreOfStatement rule) is
 
-  -- These are the items of a list of statements, newlines count in them only after tokens that can end a statement, and items behind a `.`
+  -- These are the items of a list of statements, newlines count in them only after tokens that can end a statement, and items after a `.`
   -- say so.
   pub record AreOfList (is : List (ReadStatementItem rule)) : Type 0 where
     pub derivation : ReadStats

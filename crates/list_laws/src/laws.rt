@@ -11,8 +11,8 @@ ghost use Rattle.expr_laws.specs.Newlines.{NewlinesEnd};
 ghost use Rattle.statement_laws.specs.Statements.{ReadStatementItem, dots_told, statement_items, statement_pictures};
 ghost use Rattle.list_laws.specs.Lists.{AreOfList, DividedList, bstats_of, items_of_part, list_shown, parts_of, piece_of, written_parts};
 
-/// Where newlines count as the scanner has them, and the selectors behind each `.` were read, the items of a list are divided into `;`,
-/// statements, each the longest beginning of what is left that is one and has a separator or the end behind it, and, where no beginning
+/// Where newlines count as the scanner has them, and the selectors after each `.` were read, the items of a list are divided into `;`,
+/// statements, each the longest beginning of what is left that is one and has a separator or the end after it, and, where no beginning
 /// is, the items up to the next separator outside brackets. They are so divided in one way, and the reader divides them so.
 pub fn law_division()
     ensures divided { (is : List (ReadStatementItem longest)) → NewlinesEnd (items_tokens (statement_items longest is)) → dots_told longest false is ≡ true
